@@ -1,0 +1,3 @@
+mod fault;
+
+pub use fault::Fault;

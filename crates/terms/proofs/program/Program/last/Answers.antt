@@ -1,0 +1,6 @@
+use native.Mathlib.Omega.{arith}
+use Rattle.terms.proofs.Lookups.{last-is}
+use Rattle.terms.proofs.program.Program.last.Needs as need
+
+pub returns : need.returns
+returns c = let p = c .args .self .now in last-is (p .terms) (p .last) (p .symbols) (p .definitions) (p .count) (omega arith)

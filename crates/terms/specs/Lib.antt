@@ -1,0 +1,5 @@
+pub mod Syntax
+pub mod Script
+pub mod Form
+pub mod Reading
+pub mod Model
