@@ -5,3 +5,7 @@ pub mod Progress
 pub mod Defined
 pub mod Makes
 pub mod Lookups
+pub mod Formed
+pub mod Nesting
+pub mod Written
+pub mod Laws

@@ -16,7 +16,7 @@ use Rattle.std.specs.declared.option.Option.the-variants.{Some, None}
 use Rattle.terms.specs.declared.term.Term.{Term}
 use Rattle.terms.specs.declared.term.Term.the-variants.{Quote}
 use Rattle.terms.specs.declared.term.Definition.{Definition}
-use Rattle.terms.specs.Script.{Script, script-in, last, term-at, find-term, or-else, parameter-for, defun-parameter, takes-input, input-among}
+use Rattle.terms.specs.Script.{Script, script-in, last, term-at, term, find-term, or-else, parameter-for, defun-parameter, takes-input, input-among}
 
 module _ (ts : List Term) (l v : ℕ) (ds : List Definition) (n : ℕ) (fits : l ≤ length ts) where
   pub last-is : l ≡ last (script-in ts l v ds n)
@@ -60,3 +60,12 @@ module _ (ds : List Definition) (i : ℕ) (d : Definition) (lt : i < length ds) 
   pub input-turn : (x : ℕ) → input-among ds x ≡ input-among (drop i ds) x → (o : Bool) → o ≡ takes-input (getD ds i d) x
     → input-among ds x ≡ (o || input-among (drop (i + 1) ds) x)
   input-turn x inv o e = inv ∙ ap (λ es. input-among es x) (drop-more ds i d lt) ∙ ap (λ u. u || input-among (drop (i + 1) ds) x) (sym e)
+
+-- where there is no term, nil quoted stands
+pub nothing-there : (p : Script) (l : ℕ) → None ≡ find-term p l → term p l ≡ Quote 0
+unfolding term-at last
+nothing-there p zero e = refl
+nothing-there p (suc l) e = elim (cases-lt l (length (p .terms))) [
+    inl h ↦ (absurd (let k : None ≡ Some (term p (suc l)) = e ∙ cond-true _ _ _ (and-from _ _ (le-leb 1 (suc l) (omega arith)) (le-leb (suc l) (length (p .terms)) (omega arith))) in
+      let z : _≡_ {A = ℕ} 0 1 = cc in omega arith))
+  | inr h ↦ (getD-past (p .terms) l (Quote 0) h) ]

@@ -43,8 +43,13 @@ terms-right-at v ts (suc n) h m a b =
   let q = and-parts (term-right v ts (suc n)) (terms-right v ts n) h in
   elim (cases-eq m (suc n)) [ inl e ↦ (subst (λ k. term-right v ts k ≡ true) (sym e) (q .0)) | inr k ↦ (terms-right-at v ts n (q .1) m a (omega arith)) ]
 
-pub few-definitions : (a v n : ℕ) → sizes-right a v n ≡ true → n ≤ 31
-few-definitions a v n h = leb-true n 31 (and-parts (leb v 32) _ (and-parts (leb 2 v) _ (and-parts (leb a 255) _ (and-parts (leb 1 a) _ h .1) .1) .1) .1)
+pub sizes : (a v n : ℕ) → sizes-right a v n ≡ true → (1 ≤ a) × (a ≤ 255) × (2 ≤ v) × (v ≤ 32) × (n ≤ 31)
+sizes a v n h =
+  let s0 = and-parts (leb 1 a) _ h in
+  let s1 = and-parts (leb a 255) _ (s0 .1) in
+  let s2 = and-parts (leb 2 v) _ (s1 .1) in
+  let s3 = and-parts (leb v 32) _ (s2 .1) in
+  (leb-true 1 a (s0 .0), leb-true a 255 (s1 .0), leb-true 2 v (s2 .0), leb-true v 32 (s3 .0), leb-true n 31 (s3 .1))
 
 covers-same : (f g : ℕ → ℕ) → ((c : ℕ) → f c ≡ g c) → (a : ℕ) (cs : List ℕ) (z : ℕ) → covers f a cs z ≡ covers g a cs z
 covers-same f g e a [] z = refl
@@ -60,6 +65,12 @@ module _ (rows : List RawTerm) (v : ℕ) (ds : List RawDefinition) where
     unfolding program-of
     wrong-term e w =
       ap Err (w .2) ∙ sym (cond-true _ _ _ sized ∙ ap (λ o. judged o (all-decode ds && script-right (first-at (map term-of rows)) v 1 (map definition-of ds) (length rows)) (script-of rows v ds)) (w .1))
+
+    pub formed-of : wrong-from v (map term-of rows) 1 rows ≡ None → script-right (first-at (map term-of rows)) v 1 (map definition-of ds) (length rows) ≡ true → well-formed (script-of rows v ds) ≡ true
+    unfolding well-formed
+    formed-of none ok =
+      rw (length-map rows term-of, length-map ds definition-of)
+      (and-from _ _ sized (and-from _ _ (terms-right-all v (map term-of rows) (length rows) (λ m a b. wrong-none v (map term-of rows) 1 rows none m a (omega arith))) ok))
 
     module _ (terms : List Term) (firsts : List ℕ) (read : TermsRead rows v terms firsts) (ok : Bool) (definitions : List Definition)
         (defined : DefinitionsRead ds (λ c. getD firsts c 0) v (length rows) ok definitions) where
@@ -84,16 +95,8 @@ module _ (rows : List RawTerm) (v : ℕ) (ds : List RawDefinition) where
         pub right-program : Ok (script-in terms (length rows) v definitions (length ds)) ≡ program-of rows v ds
         right-program = ap Ok script-is ∙ sym (made-is ∙ cond-true _ _ _ yes-right)
 
-        formed-of : well-formed (script-of rows v ds) ≡ true
-        unfolding well-formed
-        formed-of =
-          rw (length-map rows term-of, length-map ds definition-of)
-          (and-from _ _ sized (and-from _ _
-            (terms-right-all v (map term-of rows) (length rows) (λ m a b. wrong-none v (map term-of rows) 1 rows (read .right) m a (omega arith)))
-            (and-parts (all-decode ds) _ (sym right-is ∙ yes-right) .1)))
-
         pub made-formed : well-formed (script-in terms (length rows) v definitions (length ds)) ≡ true
-        made-formed = ap well-formed script-is ∙ formed-of
+        made-formed = ap well-formed script-is ∙ formed-of (read .right) (and-parts (all-decode ds) _ (sym right-is ∙ yes-right) .1)
 
         pub made-begun : (l : ℕ) → getD firsts l 0 ≡ first-at (take (length rows) terms) l
         made-begun l = read .begun l ∙ ap (λ us. first-at us l) (sym (read .read))

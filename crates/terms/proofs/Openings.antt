@@ -49,7 +49,7 @@ module _ (g : ℕ → ℕ) (le : (c : ℕ) → g c ≤ c) (l : ℕ) where
   opening-upto [] = omega arith
   opening-upto (c ∷ cs) = joined-upto c (opening g cs l) (opening-upto cs)
 
-  chained-below : (c : ℕ) (cs : List ℕ) → chained-from g c cs l ≡ true → c < l
+  pub chained-below : (c : ℕ) (cs : List ℕ) → chained-from g c cs l ≡ true → c < l
   chained-below c [] h = let e : suc c ≡ l = eqb-true (suc c) l (and-parts _ _ h .1) in omega arith
   chained-below c (d ∷ cs) h =
     let q = and-parts (eqb (suc c) (g d)) (chained-from g d cs l) (and-parts _ _ h .1) in

@@ -1,15 +1,17 @@
 ghost use mathlib.Core.Path.{_≡_};
 ghost use Prim.Native.Nat.{suc};
 ghost use Rattle.terms.specs.Script.{last, term, find-term, first, binds, parameter, is-body, is-input, defun-parameter, input-among};
+ghost use Rattle.terms.specs.WellFormed.{WellFormed};
 ghost use Rattle.terms.specs.Model.{model};
 use crate::program::Program;
 use crate::term::Definition;
 use crate::term::Term;
 
 impl Program {
-    // The label of the entry term.
+    // The label of the entry term. A caller also learns that the script keeps the rules of form.
     pub fn last(&self) -> u8
-        ensures { λ r. ⌜ r ≡ last (model (now (self .entry))) ⌝ }
+        ensures label { λ r. ⌜ r ≡ last (model (now (self .entry))) ⌝ }
+        ensures formed { λ _. ⌜ WellFormed (model (now (self .entry))) ⌝ }
     {
         self.last
     }

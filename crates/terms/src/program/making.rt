@@ -1,5 +1,6 @@
 ghost use mathlib.Core.Path.{_≡_};
 ghost use Rattle.terms.specs.Form.{sizes-right, program-of};
+ghost use Rattle.terms.specs.Laws.{Exactly, First-wrong};
 ghost use Rattle.terms.specs.Model.{made-script};
 use crate::program::Program;
 use crate::raw::RawDefinition;
@@ -20,7 +21,9 @@ fn sizes_right(terms: usize, symbols: u32, definitions: usize) -> bool
 impl Program {
     // The program that the rows make, or the refusal: of the sizes, then of the first wrong label, then of the definitions.
     pub fn make(terms: &[RawTerm], symbols: u32, definitions: &[RawDefinition]) -> Result<Program, Fault>
-        ensures { λ r. ⌜ made-script r ≡ program-of (now (terms .entry)) symbols (now (definitions .entry)) ⌝ }
+        ensures result { λ r. ⌜ made-script r ≡ program-of (now (terms .entry)) symbols (now (definitions .entry)) ⌝ }
+        ensures exactly { λ _. ⌜ Exactly (now (terms .entry)) symbols (now (definitions .entry)) ⌝ }
+        ensures first { λ _. ⌜ First-wrong (now (terms .entry)) symbols (now (definitions .entry)) ⌝ }
     {
         if !sizes_right(terms.len(), symbols, definitions.len()) {
             return Err(Fault::ProgramSizes);

@@ -1,0 +1,5 @@
+mod scope;
+mod scopes;
+mod search;
+
+pub use search::find_owners;
