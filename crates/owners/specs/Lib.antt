@@ -1,3 +1,4 @@
 pub mod Owners
+pub mod Laws
 pub mod Scoping
 pub mod Model

@@ -16,11 +16,11 @@ use Rattle.terms.specs.Script.{Script, term, spans, binds, is-body, occurs}
 use Rattle.stores.specs.Meaning.{Meaning, clear-of}
 
 -- the least of n numbers from b on that passes, or 0; and whether one of them passes
-abbrev pub least : ℕ → ℕ → (ℕ → Bool) → ℕ
+unfoldable pub least : ℕ → ℕ → (ℕ → Bool) → ℕ
 least zero b f = 0
 least (suc n) b f = cond (f b) b (least n (suc b) f)
 
-abbrev pub some-of : ℕ → ℕ → (ℕ → Bool) → Bool
+unfoldable pub some-of : ℕ → ℕ → (ℕ → Bool) → Bool
 some-of zero b f = false
 some-of (suc n) b f = f b || some-of n (suc b) f
 
@@ -50,12 +50,15 @@ between p l o g = is-body p g && (not (eqb g o) && (spans p o g && spans p g l))
 unfoldable pub captured : Script → ℕ → Bool
 captured p l = not (eqb (owner p l) 0) && some-of 256 0 (between p l (owner p l))
 
+abbrev pub captured-byte : Script → ℕ → ℕ
+captured-byte p l = cond (captured p l) 1 0
+
 -- owner and captured for the labels 0 to 255
 unfoldable pub owners-of : Script → List ℕ
 owners-of p = map (owner p) (counting 0 256)
 
 unfoldable pub captures-of : Script → List ℕ
-captures-of p = map (λ l. cond (captured p l) 1 0) (counting 0 256)
+captures-of p = map (captured-byte p) (counting 0 256)
 
 -- the answer of the search, what the store then means, and the two outputs: refused if an output has not 256 places, then if
 -- the store takes fewer than 255 bindings, and then nothing changes; else the outputs are written and the store is cleared

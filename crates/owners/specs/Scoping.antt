@@ -39,7 +39,7 @@ abbrev pub entered : Script → ℕ → List Scope → List Scope
 entered p l ss = cond (isSome (binds p l)) (scope l (cond (is-body p l) l (innermost ss .function)) ∷ ss) ss
 
 -- the binders among n numbers from b on whose span holds l, with the function that encloses what each holds
-abbrev pub opened : Script → ℕ → ℕ → ℕ → List Scope
+unfoldable pub opened : Script → ℕ → ℕ → ℕ → List Scope
 opened p l zero b = []
 opened p l (suc n) b =
     cond (isSome (binds p b) && spans p b l)
