@@ -26,27 +26,30 @@ pub record Noted (f : ℕ → ℕ) (l : ℕ) (xs : List ℕ) : Type 0 where
 module _ (f : ℕ → ℕ) where
   pub none-noted : (l : ℕ) (xs : List ℕ) → xs ≡ replicate 256 0 → ((m : ℕ) → l < m → f m ≡ 0) → Noted f l xs
   none-noted l xs e past = record {
-      long = ap length e;
-      above = λ m a b. zero-at m ∙ sym (past m a);
-      below = λ m a. zero-at m }
+    long = ap length e;
+    above = λ m a b. zero-at m ∙ sym (past m a);
+    below = λ m a. zero-at m;
+  }
     where
-    zero-at : (m : ℕ) → getD xs m 0 ≡ 0
-    zero-at m = ap (λ ys. getD ys m 0) e ∙ elim (cases-lt m 256) [ inl h ↦ (getD-replicate 256 m 0 0 h) | inr h ↦ (getD-past (replicate 256 0) m 0 h) ]
+      zero-at : (m : ℕ) → getD xs m 0 ≡ 0
+      zero-at m = ap (λ ys. getD ys m 0) e ∙ elim (cases-lt m 256) [ inl h ↦ (getD-replicate 256 m 0 0 h) | inr h ↦ (getD-past (replicate 256 0) m 0 h) ]
 
   pub one-noted : (l : ℕ) (xs ys : List ℕ) → 1 ≤ l → l < 256 → Noted f l xs → ys ≡ set xs l (f l) → Noted f (l - 1) ys
   one-noted l xs ys low high n e = record {
-      long = ap length e ∙ length-set xs l (f l) ∙ n .long;
-      above = λ m a b. ap (λ zs. getD zs m 0) e ∙ elim (cases-eq m l) [
-          inl q ↦ (ap (λ k. getD (set xs l (f l)) k 0) q ∙ getD-set-same xs l (f l) 0 (omega (arith, n .long)) ∙ ap f (sym q))
-        | inr q ↦ (getD-set-other xs l m (f l) 0 q ∙ n .above m (omega arith) b) ];
-      below = λ m a. ap (λ zs. getD zs m 0) e ∙ getD-set-other xs l m (f l) 0 (let q : m ≢ l = omega arith in q) ∙ n .below m (omega arith) }
+    long = ap length e ∙ length-set xs l (f l) ∙ n .long;
+    above = λ m a b. ap (λ zs. getD zs m 0) e ∙ elim (cases-eq m l) [
+      | inl q ↦ (ap (λ k. getD (set xs l (f l)) k 0) q ∙ getD-set-same xs l (f l) 0 (omega (arith, n .long)) ∙ ap f (sym q))
+      | inr q ↦ (getD-set-other xs l m (f l) 0 q ∙ n .above m (omega arith) b)
+    ];
+    below = λ m a. ap (λ zs. getD zs m 0) e ∙ getD-set-other xs l m (f l) 0 (let q : m ≢ l = omega arith in q) ∙ n .below m (omega arith);
+  }
 
   pub all-noted : (xs : List ℕ) → f 0 ≡ 0 → Noted f 0 xs → xs ≡ map f (counting 0 256)
   all-noted xs z n = fill-by-all f xs 256 0 (n .long) at
     where
-    at : (k : ℕ) → k < 256 → getD xs k 0 ≡ f k
-    at zero h = n .below 0 (omega arith) ∙ sym z
-    at (suc k) h = n .above (suc k) (omega arith) h
+      at : (k : ℕ) → k < 256 → getD xs k 0 ≡ f k
+      at zero h = n .below 0 (omega arith) ∙ sym z
+      at (suc k) h = n .above (suc k) (omega arith) h
 
 -- where there is no term there is no occurrence
 module _ (p : Script) where

@@ -58,49 +58,52 @@ module _ (p : Script) (w : WellFormed p) (l : ℕ) where
   unfolding opened
   same-past b0 above from zero b lt = refl
   same-past b0 above from (suc n) b lt =
-    ap (λ t. cond t (within p b (opened p l n (suc b))) (opened p l n (suc b))) test
-    ∙ ap (λ ss. cond (stands p (suc l) b) (within p b ss) ss) (same-past b0 above from n (suc b) (omega arith))
+      ap (λ t. cond t (within p b (opened p l n (suc b))) (opened p l n (suc b))) test
+      ∙ ap (λ ss. cond (stands p (suc l) b) (within p b ss) ss) (same-past b0 above from n (suc b) (omega arith))
     where
-    test : stands p l b ≡ stands p (suc l) b
-    test = same-test (stands p l b) (stands p (suc l) b)
-      (λ h. let q = stands-out p l b h in stands-in p (suc l) b (q .0) (omega (arith, q .1)) (omega arith))
-      (λ h. let q = stands-out p (suc l) b h in
-        let k = binder-label p w b (q .0) in
-        let f : first p b ≤ first p b0 = nested p w b0 b (k .0) (omega (arith, k .1)) lt (omega (arith, q .1)) in
-        stands-in p l b (q .0) (omega arith) (omega arith))
+      test : stands p l b ≡ stands p (suc l) b
+      test = same-test (stands p l b) (stands p (suc l) b)
+          (λ h. let q = stands-out p l b h in stands-in p (suc l) b (q .0) (omega (arith, q .1)) (omega arith))
+          (λ h. let q = stands-out p (suc l) b h in
+          let k = binder-label p w b (q .0) in
+          let f : first p b ≤ first p b0 = nested p w b0 b (k .0) (omega (arith, k .1)) lt (omega (arith, q .1)) in
+          stands-in p l b (q .0) (omega arith) (omega arith))
 
   -- above l, those are open at l that do not begin above it
   left-above : (n b : ℕ) → l < b → opened p l n b ≡ left-at p l (opened p (suc l) n b)
   unfolding opened
   left-above zero b above = refl
   left-above (suc n) b above = elim (cases-bool (stands p (suc l) b)) [
-      inr out ↦ (opened-out p l n b (fails (stands p l b) (λ h. let q = stands-out p l b h in unlike (sym out ∙ stands-in p (suc l) b (q .0) (omega (arith, q .1)) (omega arith))))
+    | inr out ↦ (opened-out p l n b (fails (stands p l b) (λ h. let q = stands-out p l b h in unlike (sym out ∙ stands-in p (suc l) b (q .0) (omega (arith, q .1)) (omega arith))))
         ∙ left-above n (suc b) (omega arith) ∙ ap (left-at p l) (sym (opened-out p (suc l) n b out)))
     | inl in-it ↦ (let q = stands-out p (suc l) b in-it in
         elim (cases-lt l (first p b)) [
-          inl begins ↦ (opened-out p l n b (fails (stands p l b) (λ h. omega (arith, stands-out p l b h .1)))
-            ∙ left-above n (suc b) (omega arith)
-            ∙ sym (ap (left-at p l) (opened-in p (suc l) n b in-it) ∙ cond-true (ltb l (first p b)) _ _ (lt-ltb l (first p b) begins)))
-        | inr from ↦ (opened-in p l n b (stands-in p l b (q .0) from (omega arith))
-            ∙ ap (within p b) (same-past b above from n (suc b) (omega arith))
-            ∙ sym (ap (left-at p l) (opened-in p (suc l) n b in-it) ∙ cond-false (ltb l (first p b)) _ _ (le-ltb l (first p b) from))) ]) ]
+          | inl begins ↦ (opened-out p l n b (fails (stands p l b) (λ h. omega (arith, stands-out p l b h .1)))
+              ∙ left-above n (suc b) (omega arith)
+              ∙ sym (ap (left-at p l) (opened-in p (suc l) n b in-it) ∙ cond-true (ltb l (first p b)) _ _ (lt-ltb l (first p b) begins)))
+          | inr from ↦ (opened-in p l n b (stands-in p l b (q .0) from (omega arith))
+              ∙ ap (within p b) (same-past b above from n (suc b) (omega arith))
+              ∙ sym (ap (left-at p l) (opened-in p (suc l) n b in-it) ∙ cond-false (ltb l (first p b)) _ _ (le-ltb l (first p b) from)))
+        ])
+  ]
 
   entering : (n b : ℕ) → b ≤ l → l < b + n → opened p l n b ≡ entered p l (left-at p l (opened p (suc l) n b))
   unfolding opened
   entering zero b low high = absurd (omega arith)
   entering (suc n) b low high = elim (cases-eq b l) [
-      inl e ↦ (subst (λ k. opened p l (suc n) k ≡ entered p l (left-at p l (opened p (suc l) (suc n) k))) (sym e) here)
+    | inl e ↦ (subst (λ k. opened p l (suc n) k ≡ entered p l (left-at p l (opened p (suc l) (suc n) k))) (sym e) here)
     | inr ne ↦ (opened-out p l n b (below-fails p l b (omega arith)) ∙ entering n (suc b) (omega arith) (omega arith)
-        ∙ ap (λ ss. entered p l (left-at p l ss)) (sym (opened-out p (suc l) n b (below-fails p (suc l) b (omega arith))))) ]
+        ∙ ap (λ ss. entered p l (left-at p l ss)) (sym (opened-out p (suc l) n b (below-fails p (suc l) b (omega arith)))))
+  ]
     where
-    test : stands p l l ≡ isSome (binds p l)
-    test = same-test (stands p l l) (isSome (binds p l)) (λ h. stands-out p l l h .0) (λ h. stands-in p l l h (first-le (p .terms) l) (omega arith))
+      test : stands p l l ≡ isSome (binds p l)
+      test = same-test (stands p l l) (isSome (binds p l)) (λ h. stands-out p l l h .0) (λ h. stands-in p l l h (first-le (p .terms) l) (omega arith))
 
-    here : opened p l (suc n) l ≡ entered p l (left-at p l (opened p (suc l) (suc n) l))
-    here =
-      ap (λ t. cond t (within p l (opened p l n (suc l))) (opened p l n (suc l))) test
-      ∙ ap (entered p l) (left-above n (suc l) (omega arith))
-      ∙ ap (λ ss. entered p l (left-at p l ss)) (sym (opened-out p (suc l) n l (below-fails p (suc l) l (omega arith))))
+      here : opened p l (suc n) l ≡ entered p l (left-at p l (opened p (suc l) (suc n) l))
+      here =
+          ap (λ t. cond t (within p l (opened p l n (suc l))) (opened p l n (suc l))) test
+          ∙ ap (entered p l) (left-above n (suc l) (omega arith))
+          ∙ ap (λ ss. entered p l (left-at p l ss)) (sym (opened-out p (suc l) n l (below-fails p (suc l) l (omega arith))))
 
   -- going down by one label leaves scopes, and may enter one
   pub scopes-down : l < 256 → scopes-at p l ≡ entered p l (left-at p l (scopes-at p (suc l)))
@@ -122,16 +125,17 @@ module _ (p : Script) (w : WellFormed p) where
   unfolding opened
   few-opened l zero b = omega arith
   few-opened l (suc n) b = elim (cases-bool (stands p l b)) [
-      inl h ↦ (let k = binder-label p w b (stands-out p l b h .0) in
+    | inl h ↦ (let k = binder-label p w b (stands-out p l b h .0) in
         let e : length (opened p l (suc n) b) ≡ suc (length (opened p l n (suc b))) = ap length (opened-in p l n b h) in
         omega (arith, few-opened l n (suc b), k .1))
-    | inr h ↦ (let e : length (opened p l (suc n) b) ≡ length (opened p l n (suc b)) = ap length (opened-out p l n b h) in omega (arith, few-opened l n (suc b))) ]
+    | inr h ↦ (let e : length (opened p l (suc n) b) ≡ length (opened p l n (suc b)) = ap length (opened-out p l n b h) in omega (arith, few-opened l n (suc b)))
+  ]
 
   few-from-none : (l n : ℕ) → length (opened p l (suc n) 0) < 255
   few-from-none l n =
-    let e : length (opened p l (suc n) 0) ≡ length (opened p l n 1) =
+      let e : length (opened p l (suc n) 0) ≡ length (opened p l n 1) =
       ap length (opened-out p l n 0 (fails (stands p l 0) (λ h. omega (arith, binder-label p w 0 (stands-out p l 0 h .0) .0)))) in
-    omega (arith, few-opened l n 1, w .few-terms, w .some-term)
+      omega (arith, few-opened l n 1, w .few-terms, w .some-term)
 
   -- fewer scopes are open than a search has room for
   pub few-scopes : (l : ℕ) → length (scopes-at p l) < 255
@@ -141,5 +145,6 @@ module _ (p : Script) (w : WellFormed p) where
 pub left-fewer : (p : Script) (l : ℕ) (ss : List Scope) → length (left-at p l ss) ≤ length ss
 left-fewer p l [] = omega arith
 left-fewer p l (s ∷ ss) = elim (cases-bool (ltb l (first p (s .binder)))) [
-    inl h ↦ (let e : length (left-at p l (s ∷ ss)) ≡ length (left-at p l ss) = ap length (cond-true _ _ _ h) in omega (arith, left-fewer p l ss))
-  | inr h ↦ (let e : length (left-at p l (s ∷ ss)) ≡ suc (length ss) = ap length (cond-false _ _ _ h) in omega arith) ]
+  | inl h ↦ (let e : length (left-at p l (s ∷ ss)) ≡ length (left-at p l ss) = ap length (cond-true _ _ _ h) in omega (arith, left-fewer p l ss))
+  | inr h ↦ (let e : length (left-at p l (s ∷ ss)) ≡ suc (length ss) = ap length (cond-false _ _ _ h) in omega arith)
+]

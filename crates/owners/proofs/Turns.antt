@@ -31,31 +31,31 @@ module _ (p : Script) (l : ℕ) where
 
   -- a scope that is left has a binding, which is taken off
   pub unbinds : (m m′ : Meaning ℕ) (r : Result (Unit {0}) Fault) (ss : List Scope) → (r, m′) ≡ unbind-of m → m .bindings ≡ map (binding-of p) ss → l < first p (innermost ss .binder)
-    → (r ≡ Ok tt) × (m′ ≡ holding p m (outer ss)) × (length (outer ss) < length ss)
+      → (r ≡ Ok tt) × (m′ ≡ holding p m (outer ss)) × (length (outer ss) < length ss)
   unbinds m m′ r [] is held h = absurd (omega (arith, first-zero (p .terms)))
   unbinds m m′ r (s ∷ ss) is held h =
-    let d = unbind-done m m′ r is (binding-of p s) (map (binding-of p) ss) held in
-    (d .0, d .1, omega arith)
+      let d = unbind-done m m′ r is (binding-of p s) (map (binding-of p) ss) held in
+      (d .0, d .1, omega arith)
 
 pub binds-ok : (p : Script) (m m′ : Meaning ℕ) (r : Result (Unit {0}) Fault) (ss : List Scope) (x t b : ℕ) → (r, m′) ≡ bind-of m x t b → m .bindings ≡ map (binding-of p) ss
-  → length ss < 255 → 255 ≤ m .limit → x < 32 → r ≡ Ok tt
+    → length ss < 255 → 255 ≤ m .limit → x < 32 → r ≡ Ok tt
 binds-ok p m m′ r ss x t b is held few room low =
-  let e : count-of m ≡ length ss = ap length held ∙ length-map ss (binding-of p) in
-  bind-accepts m m′ x t b r is (omega arith) (omega arith)
+    let e : count-of m ≡ length ss = ap length held ∙ length-map ss (binding-of p) in
+    bind-accepts m m′ x t b r is (omega arith) (omega arith)
 
 -- with nothing at the top level a look sees the newest binding, or nothing
 pub looks : (p : Script) (m : Meaning ℕ) (ss : List Scope) (x : ℕ) → m .bindings ≡ map (binding-of p) ss → m .top ≡ replicate 32 None → x < 32
-  → look-of m x ≡ Ok (newest x (map (binding-of p) ss))
+    → look-of m x ≡ Ok (newest x (map (binding-of p) ss))
 looks p m ss x held bare low =
-  look-low m x (omega arith)
-  ∙ ap (λ bs. Ok (or-else (newest x bs) (outermost (getD (m .top) x None)))) held
-  ∙ ap (λ us. Ok (or-else (newest x (map (binding-of p) ss)) (outermost (getD us x None)))) bare
-  ∙ ap (λ o. Ok (or-else (newest x (map (binding-of p) ss)) (outermost o))) (getD-replicate 32 x None None low)
-  ∙ ap Ok (plain (newest x (map (binding-of p) ss)))
+    look-low m x (omega arith)
+    ∙ ap (λ bs. Ok (or-else (newest x bs) (outermost (getD (m .top) x None)))) held
+    ∙ ap (λ us. Ok (or-else (newest x (map (binding-of p) ss)) (outermost (getD us x None)))) bare
+    ∙ ap (λ o. Ok (or-else (newest x (map (binding-of p) ss)) (outermost o))) (getD-replicate 32 x None None low)
+    ∙ ap Ok (plain (newest x (map (binding-of p) ss)))
   where
-  plain : (o : Option (ℕ × ℕ)) → or-else o None ≡ o
-  plain None = refl
-  plain (Some q) = refl
+    plain : (o : Option (ℕ × ℕ)) → or-else o None ≡ o
+    plain None = refl
+    plain (Some q) = refl
 
 -- a turn that leaves a scope: m0 is what the store meant before the first, ss′ the scopes after it
 module _ (p : Script) (l : ℕ) (m0 m m′ : Meaning ℕ) (r : Result (Unit {0}) Fault) (ss ss′ : List Scope) (is : (r, m′) ≡ unbind-of m) (held : m ≡ holding p m0 ss)
@@ -74,8 +74,8 @@ module _ (p : Script) (l : ℕ) (m0 m m′ : Meaning ℕ) (r : Result (Unit {0})
 
 -- what a look tells of the occurrence of x
 pub notices : (p : Script) (m : Meaning ℕ) (ss : List Scope) (x : ℕ) (occurrence : Option ℕ) (q : Option (ℕ × ℕ)) (s : Scope) → m .bindings ≡ map (binding-of p) ss → m .top ≡ replicate 32 None
-  → ((y : ℕ) → occurrence ≡ Some y → y < 32) → Some x ≡ occurrence → Ok q ≡ look-of m x → s ≡ innermost ss → told (s .function) q ≡ noticed p ss occurrence
+    → ((y : ℕ) → occurrence ≡ Some y → y < 32) → Some x ≡ occurrence → Ok q ≡ look-of m x → s ≡ innermost ss → told (s .function) q ≡ noticed p ss occurrence
 notices p m ss x occurrence q s held bare low is look inner =
-  let e : Ok q ≡ Ok (newest x (map (binding-of p) ss)) = look ∙ looks p m ss x held bare (low x (sym is)) in
-  let found : q ≡ newest x (map (binding-of p) ss) = cc in
-  ap (λ (u : Scope). told (u .function) q) inner ∙ ap (told (innermost ss .function)) found ∙ ap (noticed p ss) is
+    let e : Ok q ≡ Ok (newest x (map (binding-of p) ss)) = look ∙ looks p m ss x held bare (low x (sym is)) in
+    let found : q ≡ newest x (map (binding-of p) ss) = cc in
+    ap (λ (u : Scope). told (u .function) q) inner ∙ ap (told (innermost ss .function)) found ∙ ap (noticed p ss) is

@@ -52,10 +52,11 @@ module _ (p : Script) (w : WellFormed p) (l : ℕ) (high : l ≤ last p) (limit 
 
     pub stands-now : Standing p l limit ss2 m2
     stands-now = record {
-        open-at = open-now;
-        held = held2
+      open-at = open-now;
+      held = held2
           ∙ ap (λ us. record { bindings = map (binding-of p) ss2; top = us; limit = m1 .limit }) bare1
-          ∙ ap (λ n. record { bindings = map (binding-of p) ss2; top = replicate 32 None; limit = n }) limit1 }
+          ∙ ap (λ n. record { bindings = map (binding-of p) ss2; top = replicate 32 None; limit = n }) limit1;
+    }
 
     pub notes : noticed p ss2 (occurs (term p l)) ≡ (owner p l, captured p l)
     notes = ap (λ ss. noticed p ss (occurs (term p l))) open-now ∙ noticed-is p w l
@@ -63,16 +64,17 @@ module _ (p : Script) (w : WellFormed p) (l : ℕ) (high : l ≤ last p) (limit 
 -- before the first label nothing is open
 pub stands-first : (p : Script) (w : WellFormed p) (ss : List Scope) (m : Meaning ℕ) (limit l : ℕ) → ss ≡ [] → m ≡ new-store ℕ limit → l ≡ last p → Standing p (suc l) limit ss m
 stands-first p w ss m limit l none new is = record {
-    open-at = none ∙ sym (no-scopes p w) ∙ ap (λ k. scopes-at p (suc k)) (sym is);
-    held = new ∙ ap (λ us. record { bindings = map (binding-of p) us; top = replicate 32 None; limit = limit }) (sym none) }
+  open-at = none ∙ sym (no-scopes p w) ∙ ap (λ k. scopes-at p (suc k)) (sym is);
+  held = new ∙ ap (λ us. record { bindings = map (binding-of p) us; top = replicate 32 None; limit = limit }) (sym none);
+}
 
 -- an answer that is what was noticed tells both parts
 pub both : (o : ℕ) (k : Bool) (q : ℕ × Bool) (o′ : ℕ) (k′ : Bool) (r : Result (ℕ × Bool) Fault) → r ≡ Ok (o, k) → r ≡ Ok q → q ≡ (o′, k′) → (o ≡ o′) × (k ≡ k′)
 both o k q o′ k′ r was is noted =
-  let e : Ok (o, k) ≡ Ok q = sym was ∙ is in
-  let pair : (o, k) ≡ q = cc in
-  let all : (o, k) ≡ (o′, k′) = pair ∙ noted in
-  (ap (λ (u : ℕ × Bool). u .0) all, ap (λ (u : ℕ × Bool). u .1) all)
+    let e : Ok (o, k) ≡ Ok q = sym was ∙ is in
+    let pair : (o, k) ≡ q = cc in
+    let all : (o, k) ≡ (o′, k′) = pair ∙ noted in
+    (ap (λ (u : ℕ × Bool). u .0) all, ap (λ (u : ℕ × Bool). u .1) all)
 
 -- the store's own limit is the one that the search stands over
 pub limit-of : (p : Script) (l limit : ℕ) (ss : List Scope) (m : Meaning ℕ) → Standing p l limit ss m → m .limit ≡ limit

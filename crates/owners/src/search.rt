@@ -20,7 +20,12 @@ use stores::Store;
 use terms::Program;
 
 // Going down to `label`, leaves the scopes that begin above it.
-fn leave_scopes<S: Store<Thing = u8>>(program: &Program, store: &mut S, scopes: &mut Scopes, label: u8) -> Result<(), Fault>
+fn leave_scopes<S: Store<Thing = u8>>(
+    program: &Program,
+    store: &mut S,
+    scopes: &mut Scopes,
+    label: u8,
+) -> Result<(), Fault>
     requires { ⌜ meaning (now store) .bindings ≡ map (binding-of (model (now program))) (open-scopes (now scopes)) ⌝ }
     ensures done { λ r. ⌜ r ≡ Ok tt ⌝ }
     ensures scopes { λ _. ⌜ open-scopes (now (scopes .exit)) ≡ left-at (model (now (program .entry))) label (open-scopes (now (scopes .entry))) ⌝ }
@@ -34,22 +39,39 @@ fn leave_scopes<S: Store<Thing = u8>>(program: &Program, store: &mut S, scopes: 
 }
 
 // Enters the scope of a binder.
-fn enter_scope<S: Store<Thing = u8>>(program: &Program, store: &mut S, scopes: &mut Scopes, label: u8) -> Result<(), Fault>
+fn enter_scope<S: Store<Thing = u8>>(
+    program: &Program,
+    store: &mut S,
+    scopes: &mut Scopes,
+    label: u8,
+) -> Result<(), Fault>
     requires { ⌜ meaning (now store) .bindings ≡ map (binding-of (model (now program))) (open-scopes (now scopes)) ⌝ ∗ ⌜ length (open-scopes (now scopes)) < 255 ⌝ ∗ ⌜ 255 ≤ meaning (now store) .limit ⌝ ∗ ⌜ ((x : ℕ) → binds (model (now program)) label ≡ Some x → x < 32) ⌝ }
     ensures done { λ r. ⌜ r ≡ Ok tt ⌝ }
     ensures scopes { λ _. ⌜ open-scopes (now (scopes .exit)) ≡ entered (model (now (program .entry))) label (open-scopes (now (scopes .entry))) ⌝ }
     ensures store { λ _. ⌜ meaning (now (store .exit)) ≡ holding (model (now (program .entry))) (meaning (now (store .entry))) (open-scopes (now (scopes .exit))) ⌝ }
 {
     if let Some(variable) = program.binder(label) {
-        let function = if program.is_body(label) { label } else { scopes.innermost().function };
+        let function = if program.is_body(label) {
+            label
+        } else {
+            scopes.innermost().function
+        };
         store.bind(variable, function, label)?;
-        scopes.enter(Scope { binder: label, function });
+        scopes.enter(Scope {
+            binder: label,
+            function,
+        });
     }
     Ok(())
 }
 
 // The owner of the occurrence at `label` and whether it is captured; 0 and no where none is.
-fn owner_at<S: Store<Thing = u8>>(program: &Program, store: &S, scopes: &Scopes, label: u8) -> Result<(u8, bool), Fault>
+fn owner_at<S: Store<Thing = u8>>(
+    program: &Program,
+    store: &S,
+    scopes: &Scopes,
+    label: u8,
+) -> Result<(u8, bool), Fault>
     requires { ⌜ meaning (now store) .bindings ≡ map (binding-of (model (now program))) (open-scopes (now scopes)) ⌝ ∗ ⌜ meaning (now store) .top ≡ replicate 32 None ⌝ ∗ ⌜ ((x : ℕ) → occurs (term (model (now program)) label) ≡ Some x → x < 32) ⌝ }
     ensures { λ r. ⌜ r ≡ Ok (noticed (model (now (program .entry))) (open-scopes (now (scopes .entry))) (occurs (term (model (now (program .entry))) label))) ⌝ }
 {
@@ -70,7 +92,14 @@ fn occurrence(program: &Program, label: u8) -> Option<u8>
 }
 
 // One label: leaves what begins above it, enters its scope if it is a binder, and notes its owner.
-fn visit<S: Store<Thing = u8>>(program: &Program, store: &mut S, scopes: &mut Scopes, label: u8, owners: &mut [u8], captured: &mut [u8]) -> Result<(), Fault>
+fn visit<S: Store<Thing = u8>>(
+    program: &Program,
+    store: &mut S,
+    scopes: &mut Scopes,
+    label: u8,
+    owners: &mut [u8],
+    captured: &mut [u8],
+) -> Result<(), Fault>
     requires { ⌜ WellFormed (model (now program)) ⌝ ∗ ⌜ (1 ≤ label) × (label ≤ last (model (now program))) ⌝ ∗ ⌜ 255 ≤ meaning (now store) .limit ⌝ ∗ ⌜ Standing (model (now program)) (suc label) (meaning (now store) .limit) (open-scopes (now scopes)) (meaning (now store)) ⌝ ∗ ⌜ (length (now owners) ≡ 256) × (length (now captured) ≡ 256) ⌝ }
     ensures done { λ r. ⌜ r ≡ Ok tt ⌝ }
     ensures standing { λ _. ⌜ Standing (model (now (program .entry))) label (meaning (now (store .entry)) .limit) (open-scopes (now (scopes .exit))) (meaning (now (store .exit))) ⌝ }
@@ -86,7 +115,12 @@ fn visit<S: Store<Thing = u8>>(program: &Program, store: &mut S, scopes: &mut Sc
 }
 
 // Every label, from the entry down.
-fn visit_all<S: Store<Thing = u8>>(program: &Program, store: &mut S, owners: &mut [u8], captured: &mut [u8]) -> Result<(), Fault>
+fn visit_all<S: Store<Thing = u8>>(
+    program: &Program,
+    store: &mut S,
+    owners: &mut [u8],
+    captured: &mut [u8],
+) -> Result<(), Fault>
     requires { ⌜ 255 ≤ meaning (now store) .limit ⌝ ∗ ⌜ meaning (now store) ≡ new-store ℕ (meaning (now store) .limit) ⌝ ∗ ⌜ (now owners ≡ replicate 256 0) × (now captured ≡ replicate 256 0) ⌝ }
     ensures done { λ r. ⌜ r ≡ Ok tt ⌝ }
     ensures limit { λ _. ⌜ meaning (now (store .exit)) .limit ≡ meaning (now (store .entry)) .limit ⌝ }
@@ -104,7 +138,12 @@ fn visit_all<S: Store<Thing = u8>>(program: &Program, store: &mut S, owners: &mu
 
 // The owner of every occurrence, and whether it is captured, for the labels 0 to 255; 0 where no occurrence is. The store is used for
 // the search, with the label of the enclosing function as the thing that it keeps, and left cleared.
-pub fn find_owners<S: Store<Thing = u8>>(program: &Program, store: &mut S, owners: &mut [u8], captured: &mut [u8]) -> Result<(), Fault>
+pub fn find_owners<S: Store<Thing = u8>>(
+    program: &Program,
+    store: &mut S,
+    owners: &mut [u8],
+    captured: &mut [u8],
+) -> Result<(), Fault>
     ensures result { λ r. ⌜ (r, (meaning (now (store .exit)), (now (owners .exit), now (captured .exit)))) ≡ search-of (model (now (program .entry))) (meaning (now (store .entry))) (now (owners .entry)) (now (captured .entry)) ⌝ }
     ensures owned { λ _. ⌜ ((l : ℕ) → Owned (model (now (program .entry))) l) ⌝ }
 {

@@ -43,19 +43,19 @@ module _ {T : Type 0} (m m′ : Meaning T) (r : Result (Unit {0}) Fault) (is : (
   -- of a list with a binding in front
   pub unbind-done : (b : Binding T) (bs : List (Binding T)) → m .bindings ≡ b ∷ bs → (r ≡ Ok tt) × (m′ ≡ record { bindings = bs; top = m .top; limit = m .limit })
   unbind-done b bs list =
-    let e : (r, m′) ≡ unbind-of (record { bindings = b ∷ bs; top = m .top; limit = m .limit }) = is ∙ ap (λ l. unbind-of (record { bindings = l; top = m .top; limit = m .limit })) list in
-    (ap (λ p. p .0) e, ap (λ p. p .1) e)
+      let e : (r, m′) ≡ unbind-of (record { bindings = b ∷ bs; top = m .top; limit = m .limit }) = is ∙ ap (λ l. unbind-of (record { bindings = l; top = m .top; limit = m .limit })) list in
+      (ap (λ p. p .0) e, ap (λ p. p .1) e)
 
   pub unbind-refused : (e : Fault) → r ≡ Err e → (m′ ≡ m) × (m .bindings ≡ [])
   unbind-refused e err = from (m .bindings) refl
     where
       from : (bs : List (Binding T)) → m .bindings ≡ bs → (m′ ≡ m) × (m .bindings ≡ [])
       from [] list =
-        let q : (r, m′) ≡ (Err StoreEmpty, record { bindings = []; top = m .top; limit = m .limit }) = is ∙ ap (λ l. unbind-of (record { bindings = l; top = m .top; limit = m .limit })) list in
-        (ap (λ p. p .1) q ∙ ap (λ l. record { bindings = l; top = m .top; limit = m .limit }) (sym list), list)
+          let q : (r, m′) ≡ (Err StoreEmpty, record { bindings = []; top = m .top; limit = m .limit }) = is ∙ ap (λ l. unbind-of (record { bindings = l; top = m .top; limit = m .limit })) list in
+          (ap (λ p. p .1) q ∙ ap (λ l. record { bindings = l; top = m .top; limit = m .limit }) (sym list), list)
       from (b ∷ bs) list =
-        let ok : r ≡ Ok tt = unbind-done b bs list .0 in
-        absurd (let z : _≡_ {A = ℕ} 0 1 = cc in omega arith)
+          let ok : r ≡ Ok tt = unbind-done b bs list .0 in
+          absurd (let z : _≡_ {A = ℕ} 0 1 = cc in omega arith)
 
 module _ {T : Type 0} (m m′ : Meaning T) (x : ℕ) (t : T) (r : Result (Unit {0}) Fault) (is : (r, m′) ≡ put-of m x t) where
   pub put-done : r ≡ Ok tt → (m′ ≡ assigned m x t) × (x ≤ 31)
@@ -88,106 +88,108 @@ module _ {T : Type 0} (m : Meaning T) (x : ℕ) (front rest : List (Binding T)) 
 
   replaced-is : (t : T) → replaced x t (m .bindings) ≡ front ++ (with-thing b t ∷ rest)
   replaced-is t =
-    ap (replaced x t) (h .parted) ∙ replaced-skip x t front _ (free-newest x front (h .others)) ∙ ap (λ l. front ++ l) (replaced-here x b rest t (h .of-x))
+      ap (replaced x t) (h .parted) ∙ replaced-skip x t front _ (free-newest x front (h .others)) ∙ ap (λ l. front ++ l) (replaced-here x b rest t (h .of-x))
 
 look-newest : {T : Type 0} → Look-newest T
 look-newest m x front rest b low h = look-low m x low ∙ ap (λ o. Ok (or-else o (outermost (getD (m .top) x None)))) (newest-is m x front rest b h)
 
 bind-shows : {T : Type 0} → Bind-shows T
 bind-shows {T} m m′ x t b is =
-  let done = bind-done m m′ x t b (Ok tt) is refl in
-  let new : Binding T = record { variable = x; thing = t; birthplace = b } in
-  let here : look-of (bound m x t b) x ≡ Ok (Some (t, b)) =
-    look-low (bound m x t b) x (done .1) ∙ ap (λ o. Ok (or-else o (outermost (getD (m .top) x None)))) (newest-here x new (m .bindings) refl) in
-  (ap (λ v. look-of v x) (done .0) ∙ here,
-   λ y ne.
-     ap (λ v. look-of v y) (done .0)
-     ∙ ap (λ o. cond (ltb 31 y) (Err NoSuchVariable) (Ok (or-else o (outermost (getD (m .top) y None))))) (newest-past y new (m .bindings) (λ e. ne (sym e))))
+    let done = bind-done m m′ x t b (Ok tt) is refl in
+    let new : Binding T = record { variable = x; thing = t; birthplace = b } in
+    let here : look-of (bound m x t b) x ≡ Ok (Some (t, b)) =
+    look-low (bound m x t b) x (done .1) ∙ ap (λ o. Ok (or-else o (outermost (getD (m .top) x None)))) (newest-here x new (m .bindings) refl) in (
+      ap (λ v. look-of v x) (done .0) ∙ here,
+      λ y ne.
+          ap (λ v. look-of v y) (done .0)
+          ∙ ap (λ o. cond (ltb 31 y) (Err NoSuchVariable) (Ok (or-else o (outermost (getD (m .top) y None))))) (newest-past y new (m .bindings) (λ e. ne (sym e))),
+    )
 
 unbind-undoes : {T : Type 0} → Unbind-undoes T
 unbind-undoes m m′ x t b is = ap (λ v. unbind-of v) (bind-done m m′ x t b (Ok tt) is refl .0)
 
 put-replaces : {T : Type 0} → Put-replaces T
 put-replaces m m′ x t front rest b h is =
-  let list : replaced x t (m .bindings) ≡ front ++ (with-thing b t ∷ rest) = replaced-is m x front rest b h t in
-  let keeps : cond (isSome (newest x (m .bindings))) (m .top) (set (m .top) x (Some t)) ≡ m .top =
+    let list : replaced x t (m .bindings) ≡ front ++ (with-thing b t ∷ rest) = replaced-is m x front rest b h t in
+    let keeps : cond (isSome (newest x (m .bindings))) (m .top) (set (m .top) x (Some t)) ≡ m .top =
     ap (λ o. cond (isSome o) (m .top) (set (m .top) x (Some t))) (newest-is m x front rest b h) in
-  let after : assigned m x t ≡ record { bindings = front ++ (with-thing b t ∷ rest); top = m .top; limit = m .limit } = cc in
-  put-done m m′ x t (Ok tt) is refl .0 ∙ after
+    let after : assigned m x t ≡ record { bindings = front ++ (with-thing b t ∷ rest); top = m .top; limit = m .limit } = cc in
+    put-done m m′ x t (Ok tt) is refl .0 ∙ after
 
 put-tops : {T : Type 0} → Put-tops T
 put-tops m m′ x t free is =
-  let none : newest x (m .bindings) ≡ None = free-newest x (m .bindings) free in
-  let list : replaced x t (m .bindings) ≡ m .bindings = replaced-none x t (m .bindings) none in
-  let takes : cond (isSome (newest x (m .bindings))) (m .top) (set (m .top) x (Some t)) ≡ set (m .top) x (Some t) =
+    let none : newest x (m .bindings) ≡ None = free-newest x (m .bindings) free in
+    let list : replaced x t (m .bindings) ≡ m .bindings = replaced-none x t (m .bindings) none in
+    let takes : cond (isSome (newest x (m .bindings))) (m .top) (set (m .top) x (Some t)) ≡ set (m .top) x (Some t) =
     ap (λ o. cond (isSome o) (m .top) (set (m .top) x (Some t))) none in
-  let after : assigned m x t ≡ record { bindings = m .bindings; top = set (m .top) x (Some t); limit = m .limit } = cc in
-  put-done m m′ x t (Ok tt) is refl .0 ∙ after
+    let after : assigned m x t ≡ record { bindings = m .bindings; top = set (m .top) x (Some t); limit = m .limit } = cc in
+    put-done m m′ x t (Ok tt) is refl .0 ∙ after
 
 newest-replaced : {T : Type 0} (x : ℕ) (t : T) (bs : List (Binding T)) (p : T × ℕ) → newest x bs ≡ Some p → newest x (replaced x t bs) ≡ Some (t, p .1)
 newest-replaced x t [] p h = absurd (let z : _≡_ {A = ℕ} 0 1 = cc in omega arith)
 newest-replaced x t (b ∷ bs) p h =
-  ⊎-elim
+    ⊎-elim
     (λ e.
-      let born : b .birthplace ≡ p .1 = let q : Some (b .thing, b .birthplace) ≡ Some p = sym (newest-here x b bs e) ∙ h in cc in
-      ap (newest x) (replaced-here x b bs t e) ∙ newest-here x (with-thing b t) bs e ∙ ap (λ k. Some (t, k)) born)
+    let born : b .birthplace ≡ p .1 = let q : Some (b .thing, b .birthplace) ≡ Some p = sym (newest-here x b bs e) ∙ h in cc in
+    ap (newest x) (replaced-here x b bs t e) ∙ newest-here x (with-thing b t) bs e ∙ ap (λ k. Some (t, k)) born)
     (λ ne.
-      ap (newest x) (replaced-past x b bs t ne) ∙ newest-past x b (replaced x t bs) ne
-      ∙ newest-replaced x t bs p (sym (newest-past x b bs ne) ∙ h))
+    ap (newest x) (replaced-past x b bs t ne) ∙ newest-past x b (replaced x t bs) ne
+    ∙ newest-replaced x t bs p (sym (newest-past x b bs ne) ∙ h))
     (cases-eq (b .variable) x)
 
 newest-replaced-other : {T : Type 0} (x y : ℕ) (t : T) (bs : List (Binding T)) → (y ≡ x → ⊥) → newest y (replaced x t bs) ≡ newest y bs
 newest-replaced-other x y t [] ne = refl
 newest-replaced-other x y t (b ∷ bs) ne =
-  ⊎-elim
+    ⊎-elim
     (λ e.
-      ap (newest y) (replaced-here x b bs t e) ∙ newest-past y (with-thing b t) bs (λ e′. ne (sym e′ ∙ e))
-      ∙ sym (newest-past y b bs (λ e′. ne (sym e′ ∙ e))))
+    ap (newest y) (replaced-here x b bs t e) ∙ newest-past y (with-thing b t) bs (λ e′. ne (sym e′ ∙ e))
+    ∙ sym (newest-past y b bs (λ e′. ne (sym e′ ∙ e))))
     (λ other.
-      ap (newest y) (replaced-past x b bs t other)
-      ∙ ap (λ o. cond (eqb (b .variable) y) (Some (b .thing, b .birthplace)) o) (newest-replaced-other x y t bs ne))
+    ap (newest y) (replaced-past x b bs t other)
+    ∙ ap (λ o. cond (eqb (b .variable) y) (Some (b .thing, b .birthplace)) o) (newest-replaced-other x y t bs ne))
     (cases-eq (b .variable) x)
 
 -- what x shows after an assignment to it, by what its newest binding was
 seen-assigned : {T : Type 0} (m : Meaning T) (x : ℕ) (t : T) → x < length (m .top) → (n : Option (T × ℕ)) → newest x (m .bindings) ≡ n
-  → seen (assigned m x t) x ≡ Some (t, birthplace-in (or-else n (outermost (getD (m .top) x None))))
+    → seen (assigned m x t) x ≡ Some (t, birthplace-in (or-else n (outermost (getD (m .top) x None))))
 seen-assigned m x t lt None h =
-  let list : newest x (replaced x t (m .bindings)) ≡ None = ap (newest x) (replaced-none x t (m .bindings) h) ∙ h in
-  let top : getD (cond (isSome (newest x (m .bindings))) (m .top) (set (m .top) x (Some t))) x None ≡ Some t =
+    let list : newest x (replaced x t (m .bindings)) ≡ None = ap (newest x) (replaced-none x t (m .bindings) h) ∙ h in
+    let top : getD (cond (isSome (newest x (m .bindings))) (m .top) (set (m .top) x (Some t))) x None ≡ Some t =
     ap (λ o. getD (cond (isSome o) (m .top) (set (m .top) x (Some t))) x None) h ∙ getD-set-same (m .top) x (Some t) None lt in
-  ap (λ o. or-else o (outermost (getD (cond (isSome (newest x (m .bindings))) (m .top) (set (m .top) x (Some t))) x None))) list
-  ∙ ap outermost top ∙ ap (λ k. Some (t, k)) (outside (getD (m .top) x None))
+    ap (λ o. or-else o (outermost (getD (cond (isSome (newest x (m .bindings))) (m .top) (set (m .top) x (Some t))) x None))) list
+    ∙ ap outermost top ∙ ap (λ k. Some (t, k)) (outside (getD (m .top) x None))
   where
     outside : {T : Type 0} (o : Option T) → 0 ≡ birthplace-in (outermost o)
     outside None = refl
     outside (Some s) = refl
 seen-assigned m x t lt (Some p) h =
-  ap (λ o. or-else o (outermost (getD (assigned m x t .top) x None))) (newest-replaced x t (m .bindings) p h)
+    ap (λ o. or-else o (outermost (getD (assigned m x t .top) x None))) (newest-replaced x t (m .bindings) p h)
 
 put-shows : {T : Type 0} → Put-shows T
 put-shows m m′ x t o size was is =
-  let done = put-done m m′ x t (Ok tt) is refl in
-  let old = look-done m x o was in
-  let here : look-of (assigned m x t) x ≡ Ok (Some (t, birthplace-in o)) =
+    let done = put-done m m′ x t (Ok tt) is refl in
+    let old = look-done m x o was in
+    let here : look-of (assigned m x t) x ≡ Ok (Some (t, birthplace-in o)) =
     look-low (assigned m x t) x (done .1) ∙ ap Ok (seen-assigned m x t (omega (arith, done .1)) (newest x (m .bindings)) refl)
-    ∙ ap (λ v. Ok (Some (t, birthplace-in v))) (sym (old .0)) in
-  (ap (λ v. look-of v x) (done .0) ∙ here,
-   λ y ne.
-     let list : newest y (replaced x t (m .bindings)) ≡ newest y (m .bindings) = newest-replaced-other x y t (m .bindings) ne in
-     let top : getD (cond (isSome (newest x (m .bindings))) (m .top) (set (m .top) x (Some t))) y None ≡ getD (m .top) y None =
-       cond-both (isSome (newest x (m .bindings))) (m .top) (set (m .top) x (Some t)) (λ l. getD l y None ≡ getD (m .top) y None) (λ _. refl) (λ _. getD-set-other (m .top) x y (Some t) None ne) in
-     ap (λ v. look-of v y) (done .0)
-     ∙ ap (λ v. cond (ltb 31 y) (Err NoSuchVariable) (Ok (or-else v (outermost (getD (assigned m x t .top) y None))))) list
-     ∙ ap (λ v. cond (ltb 31 y) (Err NoSuchVariable) (Ok (or-else (newest y (m .bindings)) (outermost v)))) top)
+    ∙ ap (λ v. Ok (Some (t, birthplace-in v))) (sym (old .0)) in (
+      ap (λ v. look-of v x) (done .0) ∙ here,
+      λ y ne.
+          let list : newest y (replaced x t (m .bindings)) ≡ newest y (m .bindings) = newest-replaced-other x y t (m .bindings) ne in
+          let top : getD (cond (isSome (newest x (m .bindings))) (m .top) (set (m .top) x (Some t))) y None ≡ getD (m .top) y None =
+          cond-both (isSome (newest x (m .bindings))) (m .top) (set (m .top) x (Some t)) (λ l. getD l y None ≡ getD (m .top) y None) (λ _. refl) (λ _. getD-set-other (m .top) x y (Some t) None ne) in
+          ap (λ v. look-of v y) (done .0)
+          ∙ ap (λ v. cond (ltb 31 y) (Err NoSuchVariable) (Ok (or-else v (outermost (getD (assigned m x t .top) y None))))) list
+          ∙ ap (λ v. cond (ltb 31 y) (Err NoSuchVariable) (Ok (or-else (newest y (m .bindings)) (outermost v)))) top,
+    )
 
 pub clear-formed : {T : Type 0} (m : Meaning T) → Formed (clear-of m)
 clear-formed m = record { room = omega arith; places = refl }
 
 pub bind-formed : {T : Type 0} (m : Meaning T) (x : ℕ) (t : T) (b : ℕ) → Formed m → Formed (bind-of m x t b .1)
 bind-formed {T} m x t b h =
-  let P : Result (Unit {0}) Fault × Meaning T → Type 0 = λ p. Formed (p .1) in
-  cond-both (ltb 31 x) _ _ P (λ _. h)
-  (λ _. cond-both (eqb (count-of m) (m .limit)) _ _ P (λ _. h)
+    let P : Result (Unit {0}) Fault × Meaning T → Type 0 = λ p. Formed (p .1) in
+    cond-both (ltb 31 x) _ _ P (λ _. h)
+    (λ _. cond-both (eqb (count-of m) (m .limit)) _ _ P (λ _. h)
     (λ e. let ne = eqb-false _ _ e in let le = h .room in record { room = omega arith; places = h .places }))
 
 pub unbind-formed : {T : Type 0} (m : Meaning T) → Formed m → Formed (unbind-of m .1)
@@ -199,12 +201,12 @@ unbind-formed m h = from (m .bindings) (m .top) (m .limit) (h .room) (h .places)
 
 pub put-formed : {T : Type 0} (m : Meaning T) (x : ℕ) (t : T) → Formed m → Formed (put-of m x t .1)
 put-formed {T} m x t h =
-  let P : Result (Unit {0}) Fault × Meaning T → Type 0 = λ p. Formed (p .1) in
-  let long : length (assigned m x t .top) ≡ 32 =
+    let P : Result (Unit {0}) Fault × Meaning T → Type 0 = λ p. Formed (p .1) in
+    let long : length (assigned m x t .top) ≡ 32 =
     cond-both (isSome (newest x (m .bindings))) (m .top) (set (m .top) x (Some t)) (λ l. length l ≡ 32) (λ _. h .places) (λ _. length-set (m .top) x (Some t) ∙ h .places) in
-  let same = length-replaced x t (m .bindings) in
-  let le = h .room in
-  cond-both (ltb 31 x) _ _ P (λ _. h) (λ _. record { room = omega arith; places = long })
+    let same = length-replaced x t (m .bindings) in
+    let le = h .room in
+    cond-both (ltb 31 x) _ _ P (λ _. h) (λ _. record { room = omega arith; places = long })
 
 pub lawful : (T : Type 0) → Lawful T
 lawful T = record {
@@ -217,5 +219,7 @@ lawful T = record {
   refused-same = record {
     bind = λ m m′ x t b e is. bind-refused m m′ x t b (Err e) is e refl;
     unbind = λ m m′ e is. unbind-refused m m′ (Err e) is e refl .0;
-    put = λ m m′ x t e is. put-refused m m′ x t (Err e) is e refl .0 };
-  stays-formed = record { clear = clear-formed; bind = bind-formed; unbind = unbind-formed; put = put-formed } }
+    put = λ m m′ x t e is. put-refused m m′ x t (Err e) is e refl .0;
+  };
+  stays-formed = record { clear = clear-formed; bind = bind-formed; unbind = unbind-formed; put = put-formed };
+}

@@ -21,8 +21,8 @@ some-item (x ∷ xs) h = x
 
 pub held-none : {T : Type 0} (xs : List (Binding T)) (top : List (Option T)) → top ≡ replicate 32 None → held xs (length xs) top ≡ new-store T (length xs)
 held-none xs top e =
-  let list : drop (length xs) xs ≡ [] = drop-all (length xs) xs (omega arith) in
-  cc
+    let list : drop (length xs) xs ≡ [] = drop-all (length xs) xs (omega arith) in
+    cc
 
 module _ {T : Type 0} (xs : List (Binding T)) (n : ℕ) (top : List (Option T)) (fits : n ≤ length xs) where
   pub counted : length xs - n ≡ length (drop n xs)
@@ -35,14 +35,14 @@ module _ {T : Type 0} (xs : List (Binding T)) (n : ℕ) (top : List (Option T)) 
   bind-full x t b low none = calls.bind-full (held xs n top) x t b low (simp length-drop (omega arith))
 
   pub bind-room : (x : ℕ) (t : T) (b : ℕ) → x ≤ 31 → (n ≡ 0 → ⊥)
-    → (Ok tt, held (set xs (n - 1) (record { variable = x; thing = t; birthplace = b })) (n - 1) top) ≡ bind-of (held xs n top) x t b
+      → (Ok tt, held (set xs (n - 1) (record { variable = x; thing = t; birthplace = b })) (n - 1) top) ≡ bind-of (held xs n top) x t b
   bind-room x t b low some =
-    let new : Binding T = record { variable = x; thing = t; birthplace = b } in
-    let list : drop (n - 1) (set xs (n - 1) new) ≡ new ∷ drop n xs =
+      let new : Binding T = record { variable = x; thing = t; birthplace = b } in
+      let list : drop (n - 1) (set xs (n - 1) new) ≡ new ∷ drop n xs =
       drop-set xs (n - 1) new (omega arith) ∙ ap (λ k. new ∷ drop k xs) (let one : (n - 1) + 1 ≡ n = omega arith in one) in
-    let long : length (set xs (n - 1) new) ≡ length xs = length-set xs (n - 1) new in
-    let is : held (set xs (n - 1) new) (n - 1) top ≡ bound (held xs n top) x t b = cc in
-    calls.bind-room (held xs n top) x t b _ low (λ e. some (let l = counted in omega arith)) is
+      let long : length (set xs (n - 1) new) ≡ length xs = length-set xs (n - 1) new in
+      let is : held (set xs (n - 1) new) (n - 1) top ≡ bound (held xs n top) x t b = cc in
+      calls.bind-room (held xs n top) x t b _ low (λ e. some (let l = counted in omega arith)) is
 
   pub unbind-none : n ≡ length xs → (Err StoreEmpty, held xs n top) ≡ unbind-of (held xs n top)
   unbind-none e = rw (drop-all n xs (omega arith)) refl
@@ -53,11 +53,11 @@ module _ {T : Type 0} (xs : List (Binding T)) (n : ℕ) (top : List (Option T)) 
   -- what a search of the list behind the first n tells of the records
   pub behind-some : (x i : ℕ) → Place x (take (length xs - n) (drop n xs)) (Some i) → Behind x xs n (Some (n + i))
   behind-some x i h =
-    let p : Place x (drop n xs) (Some i) = rw take-rest at h in
-    let lt : i < length (drop n xs) = p .0 in
-    let long = counted in
-    let back : (n + i) - n ≡ i = omega arith in
-    (omega arith, omega arith, subst (λ k. Place x (drop n xs) (Some k)) (sym back) p)
+      let p : Place x (drop n xs) (Some i) = rw take-rest at h in
+      let lt : i < length (drop n xs) = p .0 in
+      let long = counted in
+      let back : (n + i) - n ≡ i = omega arith in
+      (omega arith, omega arith, subst (λ k. Place x (drop n xs) (Some k)) (sym back) p)
 
   pub behind-none : (x : ℕ) → Place x (take (length xs - n) (drop n xs)) None → Behind x xs n None
   behind-none x h = rw take-rest at h
@@ -76,22 +76,22 @@ module _ {T : Type 0} (xs : List (Binding T)) (n : ℕ) (top : List (Option T)) 
     -- d is what was read there
     pub look-at : d ≡ getD (take (length xs - 0) (drop 0 xs)) i d → Ok (Some (d .thing, d .birthplace)) ≡ look-of (held xs n top) x
     look-at read =
-      calls.look-low (held xs n top) x _ low
-      (ap (λ v. Some (v .thing, v .birthplace)) (read ∙ ap (λ l. getD l i d) (take-rest xs 0)) ∙ ap (λ o. or-else o (outermost (getD top x None))) (sym shown))
+        calls.look-low (held xs n top) x _ low
+        (ap (λ v. Some (v .thing, v .birthplace)) (read ∙ ap (λ l. getD l i d) (take-rest xs 0)) ∙ ap (λ o. or-else o (outermost (getD top x None))) (sym shown))
 
     pub put-at : (t : T) → (Ok tt, held (set xs i (with-thing (getD xs i d) t)) n top) ≡ put-of (held xs n top) x t
     put-at t =
-      let new : Binding T = with-thing (getD xs i d) t in
-      let list : drop n (set xs i new) ≡ replaced x t (drop n xs) =
+        let new : Binding T = with-thing (getD xs i d) t in
+        let list : drop n (set xs i new) ≡ replaced x t (drop n xs) =
         ap (λ k. drop n (set xs k new)) (sym at-i) ∙ drop-set-add n xs (i - n) new
         ∙ ap (λ v. set (drop n xs) (i - n) (with-thing v t)) (sym item)
         ∙ sym (replaced-at x (drop n xs) (i - n) d (h .2 .0) (h .2 .1 d) (h .2 .2) t) in
-      calls.put-bound (drop n xs) (drop n (set xs i new)) top top (length xs) (length (set xs i new)) (length-set xs i new) x t low _ shown list refl
+        calls.put-bound (drop n xs) (drop n (set xs i new)) top top (length xs) (length (set xs i new)) (length-set xs i new) x t low _ shown list refl
 
   pub look-top : (x : ℕ) (o : Option T) → x ≤ 31 → newest x (drop n xs) ≡ None → o ≡ getD top x None → Ok (outermost o) ≡ look-of (held xs n top) x
   look-top x o low none is =
-    calls.look-low (held xs n top) x _ low (ap outermost is ∙ ap (λ p. or-else p (outermost (getD top x None))) (sym none))
+      calls.look-low (held xs n top) x _ low (ap outermost is ∙ ap (λ p. or-else p (outermost (getD top x None))) (sym none))
 
   pub put-top : (x : ℕ) (t : T) (top′ : List (Option T)) → x ≤ 31 → newest x (drop n xs) ≡ None → top′ ≡ set top x (Some t)
-    → (Ok tt, held xs n top′) ≡ put-of (held xs n top) x t
+      → (Ok tt, held xs n top′) ≡ put-of (held xs n top) x t
   put-top x t top′ low none e = calls.put-top (drop n xs) (drop n xs) top top′ (length xs) (length xs) refl x t low none refl e

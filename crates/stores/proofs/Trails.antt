@@ -23,11 +23,11 @@ unfolding sound
 sound-none {T} cells ss e = ap (sound cells) (drop-all (length ss) ss (omega arith)) ∙ rw e (vacant-none (T × ℕ) 32)
 
 pub unwound-none : {T : Type 0} (cells : List (Option (T × ℕ))) (ss : List (Saved T)) (top : List (Option T)) → top ≡ replicate 32 None
-  → unwound cells ss (length ss) top ≡ new-store T (length ss)
+    → unwound cells ss (length ss) top ≡ new-store T (length ss)
 unfolding unwind
 unwound-none cells ss top e =
-  let list : unwind cells (drop (length ss) ss) ≡ [] = ap (unwind cells) (drop-all (length ss) ss (omega arith)) in
-  cc
+    let list : unwind cells (drop (length ss) ss) ≡ [] = ap (unwind cells) (drop-all (length ss) ss (omega arith)) in
+    cc
 
 module _ {T : Type 0} (cells : List (Option (T × ℕ))) (ss : List (Saved T)) (n : ℕ) (top : List (Option T)) (fits : n ≤ length ss) (good : sound cells (drop n ss) ≡ true) where
   pub counted : length ss - n ≡ length (unwind cells (drop n ss))
@@ -39,13 +39,13 @@ module _ {T : Type 0} (cells : List (Option (T × ℕ))) (ss : List (Saved T)) (
   -- ---- look
   pub look-cell : (x : ℕ) (p : T × ℕ) → x ≤ 31 → Some p ≡ getD cells x None → Ok (Some p) ≡ look-of (unwound cells ss n top) x
   look-cell x p low is =
-    calls.look-low (unwound cells ss n top) x _ low
-    (ap (λ o. or-else o (outermost (getD top x None))) (is ∙ sym (newest-unwind x cells (drop n ss) good)))
+      calls.look-low (unwound cells ss n top) x _ low
+      (ap (λ o. or-else o (outermost (getD top x None))) (is ∙ sym (newest-unwind x cells (drop n ss) good)))
 
   pub look-top : (x : ℕ) (o : Option T) → x ≤ 31 → None ≡ getD cells x None → o ≡ getD top x None → Ok (outermost o) ≡ look-of (unwound cells ss n top) x
   look-top x o low none is =
-    calls.look-low (unwound cells ss n top) x _ low
-    (ap outermost is ∙ ap (λ p. or-else p (outermost (getD top x None))) (none ∙ sym (newest-unwind x cells (drop n ss) good)))
+      calls.look-low (unwound cells ss n top) x _ low
+      (ap outermost is ∙ ap (λ p. or-else p (outermost (getD top x None))) (none ∙ sym (newest-unwind x cells (drop n ss) good)))
 
   -- ---- bind
   pub bind-full : (x : ℕ) (t : T) (b : ℕ) → x ≤ 31 → n ≡ 0 → (Err StoreFull, unwound cells ss n top) ≡ bind-of (unwound cells ss n top) x t b
@@ -59,10 +59,10 @@ module _ {T : Type 0} (cells : List (Option (T × ℕ))) (ss : List (Saved T)) (
     trail′ : drop (n - 1) ss′ ≡ record { variable = x; covered = getD cells x None } ∷ drop n ss
     unfolding ss′
     trail′ =
-      let one : (n - 1) + 1 ≡ n = omega arith in
-      drop-set ss (n - 1) (record { variable = x; covered = covered }) (omega arith)
-      ∙ ap (λ k. record { variable = x; covered = covered } ∷ drop k ss) one
-      ∙ ap (λ o. record { variable = x; covered = o } ∷ drop n ss) was
+        let one : (n - 1) + 1 ≡ n = omega arith in
+        drop-set ss (n - 1) (record { variable = x; covered = covered }) (omega arith)
+        ∙ ap (λ k. record { variable = x; covered = covered } ∷ drop k ss) one
+        ∙ ap (λ o. record { variable = x; covered = o } ∷ drop n ss) was
 
     pub bind-sound : sound cells′ (drop (n - 1) (set ss (n - 1) (record { variable = x; covered = covered }))) ≡ true
     unfolding ss′
@@ -71,11 +71,11 @@ module _ {T : Type 0} (cells : List (Option (T × ℕ))) (ss : List (Saved T)) (
     pub bind-room : (Ok tt, unwound cells′ (set ss (n - 1) (record { variable = x; covered = covered })) (n - 1) top) ≡ bind-of (unwound cells ss n top) x t b
     unfolding ss′
     bind-room =
-      let list : unwind cells′ (drop (n - 1) ss′) ≡ record { variable = x; thing = t; birthplace = b } ∷ unwind cells (drop n ss) =
+        let list : unwind cells′ (drop (n - 1) ss′) ≡ record { variable = x; thing = t; birthplace = b } ∷ unwind cells (drop n ss) =
         ap (λ l. unwind l (drop (n - 1) ss′)) now-is ∙ ap (unwind (set cells x (Some (t, b)))) trail′ ∙ unwind-new x cells (drop n ss) (t, b) low size in
-      let long : length ss′ ≡ length ss = length-set ss (n - 1) _ in
-      let is : unwound cells′ ss′ (n - 1) top ≡ bound (unwound cells ss n top) x t b = cc in
-      calls.bind-room (unwound cells ss n top) x t b _ low (λ e. some (let l = counted in omega arith)) is
+        let long : length ss′ ≡ length ss = length-set ss (n - 1) _ in
+        let is : unwound cells′ ss′ (n - 1) top ≡ bound (unwound cells ss n top) x t b = cc in
+        calls.bind-room (unwound cells ss n top) x t b _ low (λ e. some (let l = counted in omega arith)) is
 
   -- ---- unbind
   pub unbind-none : n ≡ length ss → (Err StoreEmpty, unwound cells ss n top) ≡ unbind-of (unwound cells ss n top)
@@ -97,16 +97,16 @@ module _ {T : Type 0} (cells : List (Option (T × ℕ))) (ss : List (Saved T)) (
       unbind-sound = ap (λ l. sound l (drop (n + 1) ss)) now-is ∙ parts .rest
 
       off : (o : Option (T × ℕ)) (bs : List (Binding T)) → isSome o ≡ true
-        → (Ok tt, record { bindings = bs; top = top; limit = length ss }) ≡ unbind-of (record { bindings = ahead (getD ss n d .variable) o bs; top = top; limit = length ss })
+          → (Ok tt, record { bindings = bs; top = top; limit = length ss }) ≡ unbind-of (record { bindings = ahead (getD ss n d .variable) o bs; top = top; limit = length ss })
       off None bs h = absurd (let z : _≡_ {A = ℕ} 0 1 = cc in omega arith)
       off (Some p) bs h = refl
 
       pub unbind-one : (Ok tt, unwound cells′ ss (n + 1) top) ≡ unbind-of (unwound cells ss n top)
       unfolding unwind
       unbind-one =
-        ap (λ l. (Ok tt, record { bindings = unwind l (drop (n + 1) ss); top = top; limit = length ss })) now-is
-        ∙ off (getD cells (getD ss n d .variable) None) (unwind (set cells (getD ss n d .variable) (getD ss n d .covered)) (drop (n + 1) ss)) (parts .there)
-        ∙ ap (λ l. unbind-of (record { bindings = unwind cells l; top = top; limit = length ss })) (sym split)
+          ap (λ l. (Ok tt, record { bindings = unwind l (drop (n + 1) ss); top = top; limit = length ss })) now-is
+          ∙ off (getD cells (getD ss n d .variable) None) (unwind (set cells (getD ss n d .variable) (getD ss n d .covered)) (drop (n + 1) ss)) (parts .there)
+          ∙ ap (λ l. unbind-of (record { bindings = unwind cells l; top = top; limit = length ss })) (sym split)
 
   -- ---- put
   module _ (x : ℕ) (t : T) (low : x ≤ 31) (size : length cells ≡ 32) where
@@ -114,14 +114,14 @@ module _ {T : Type 0} (cells : List (Option (T × ℕ))) (ss : List (Saved T)) (
     put-sound p cells′ there now-is = ap (λ l. sound l (drop n ss)) now-is ∙ sound-put x (t, p .1) p cells (drop n ss) (omega arith) there good
 
     pub put-cell : (p : T × ℕ) (cells′ : List (Option (T × ℕ))) → getD cells x None ≡ Some p → cells′ ≡ set cells x (Some (t, p .1))
-      → (Ok tt, unwound cells′ ss n top) ≡ put-of (unwound cells ss n top) x t
+        → (Ok tt, unwound cells′ ss n top) ≡ put-of (unwound cells ss n top) x t
     put-cell p cells′ there now-is =
-      calls.put-bound (unwind cells (drop n ss)) (unwind cells′ (drop n ss)) top top (length ss) (length ss) refl x t low p
-      (newest-unwind x cells (drop n ss) good ∙ there)
-      (ap (λ l. unwind l (drop n ss)) now-is ∙ unwind-put x t p cells (drop n ss) (omega arith) there good)
-      refl
+        calls.put-bound (unwind cells (drop n ss)) (unwind cells′ (drop n ss)) top top (length ss) (length ss) refl x t low p
+        (newest-unwind x cells (drop n ss) good ∙ there)
+        (ap (λ l. unwind l (drop n ss)) now-is ∙ unwind-put x t p cells (drop n ss) (omega arith) there good)
+        refl
 
     pub put-top : (top′ : List (Option T)) → getD cells x None ≡ None → top′ ≡ set top x (Some t) → (Ok tt, unwound cells ss n top′) ≡ put-of (unwound cells ss n top) x t
     put-top top′ none e =
-      calls.put-top (unwind cells (drop n ss)) (unwind cells (drop n ss)) top top′ (length ss) (length ss) refl x t low
-      (newest-unwind x cells (drop n ss) good ∙ none) refl e
+        calls.put-top (unwind cells (drop n ss)) (unwind cells (drop n ss)) top top′ (length ss) (length ss) refl x t low
+        (newest-unwind x cells (drop n ss) good ∙ none) refl e

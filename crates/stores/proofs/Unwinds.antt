@@ -59,9 +59,9 @@ pub record Parts {T : Type 0} (cells : List (Option (T × ℕ))) (s : Saved T) (
 pub sound-parts : {T : Type 0} (cells : List (Option (T × ℕ))) (s : Saved T) (ss : List (Saved T)) → sound cells (s ∷ ss) ≡ true → Parts cells s ss
 unfolding sound
 sound-parts cells s ss h =
-  let p = and-parts (leb (s .variable) 31) _ h in
-  let q = and-parts (isSome (getD cells (s .variable) None)) _ (p .1) in
-  record { low = leb-true _ _ (p .0); there = q .0; rest = q .1 }
+    let p = and-parts (leb (s .variable) 31) _ h in
+    let q = and-parts (isSome (getD cells (s .variable) None)) _ (p .1) in
+    record { low = leb-true _ _ (p .0); there = q .0; rest = q .1 }
 
 sound-from : {T : Type 0} (cells : List (Option (T × ℕ))) (s : Saved T) (ss : List (Saved T)) → Parts cells s ss → sound cells (s ∷ ss) ≡ true
 unfolding sound
@@ -72,21 +72,21 @@ pub newest-unwind : {T : Type 0} (x : ℕ) (cells : List (Option (T × ℕ))) (s
 unfolding unwind sound
 newest-unwind x cells [] h = sym (vacant-at cells h x)
 newest-unwind x cells (s ∷ ss) h =
-  let p = sound-parts cells s ss h in
-  let v = s .variable in
-  ⊎-elim
+    let p = sound-parts cells s ss h in
+    let v = s .variable in
+    ⊎-elim
     (λ e. newest-ahead x v _ (getD cells v None) (p .there) e ∙ ap (λ k. getD cells k None) e)
     (λ ne.
-      newest-behind x v _ (getD cells v None) ne ∙ newest-unwind x (set cells v (s .covered)) ss (p .rest)
-      ∙ getD-set-other cells v x (s .covered) None (λ e. ne (sym e)))
+    newest-behind x v _ (getD cells v None) ne ∙ newest-unwind x (set cells v (s .covered)) ss (p .rest)
+    ∙ getD-set-other cells v x (s .covered) None (λ e. ne (sym e)))
     (cases-eq v x)
 
 pub length-unwind : {T : Type 0} (cells : List (Option (T × ℕ))) (ss : List (Saved T)) → sound cells ss ≡ true → length (unwind cells ss) ≡ length ss
 unfolding unwind sound
 length-unwind cells [] h = refl
 length-unwind cells (s ∷ ss) h =
-  let p = sound-parts cells s ss h in
-  length-ahead (s .variable) _ (getD cells (s .variable) None) (p .there) ∙ ap suc (length-unwind (set cells (s .variable) (s .covered)) ss (p .rest))
+    let p = sound-parts cells s ss h in
+    length-ahead (s .variable) _ (getD cells (s .variable) None) (p .there) ∙ ap suc (length-unwind (set cells (s .variable) (s .covered)) ss (p .rest))
 
 -- ---- a new binding of x
 module _ {T : Type 0} (x : ℕ) (cells : List (Option (T × ℕ))) (ss : List (Saved T)) (q : T × ℕ) (low : x ≤ 31) (size : length cells ≡ 32) where
@@ -102,52 +102,52 @@ module _ {T : Type 0} (x : ℕ) (cells : List (Option (T × ℕ))) (ss : List (S
   pub unwind-new : unwind (set cells x (Some q)) (record { variable = x; covered = getD cells x None } ∷ ss) ≡ record { variable = x; thing = q .0; birthplace = q .1 } ∷ unwind cells ss
   unfolding unwind
   unwind-new =
-    ap (λ o. ahead x o (unwind (set (set cells x (Some q)) x (getD cells x None)) ss)) in-cell ∙ ap (λ l. ahead x (Some q) (unwind l ss)) put-back
+      ap (λ o. ahead x o (unwind (set (set cells x (Some q)) x (getD cells x None)) ss)) in-cell ∙ ap (λ l. ahead x (Some q) (unwind l ss)) put-back
 
 -- ---- another thing for x, whose cell is full
 pub unwind-put : {T : Type 0} (x : ℕ) (t : T) (p : T × ℕ) (cells : List (Option (T × ℕ))) (ss : List (Saved T)) → x < length cells → getD cells x None ≡ Some p → sound cells ss ≡ true
-  → unwind (set cells x (Some (t, p .1))) ss ≡ replaced x t (unwind cells ss)
+    → unwind (set cells x (Some (t, p .1))) ss ≡ replaced x t (unwind cells ss)
 unfolding unwind
 unwind-put x t p cells [] lt there h = refl
 unwind-put x t p cells (s ∷ ss) lt there h =
-  let h′ = sound-parts cells s ss h in
-  let v = s .variable in
-  let c = s .covered in
-  let q : Option _ = Some (t, p .1) in
-  ⊎-elim
+    let h′ = sound-parts cells s ss h in
+    let v = s .variable in
+    let c = s .covered in
+    let q : Option _ = Some (t, p .1) in
+    ⊎-elim
     (λ e.
-      let here : getD cells v None ≡ Some p = ap (λ k. getD cells k None) e ∙ there in
-      let after : getD (set cells x q) v None ≡ q = ap (λ k. getD (set cells x q) k None) e ∙ getD-set-same cells x q None lt in
-      let back : set (set cells x q) v c ≡ set cells v c = ap (λ k. set (set cells x q) k c) e ∙ set-set cells x q c ∙ ap (λ k. set cells k c) (sym e) in
-      ap (λ o. ahead v o (unwind (set (set cells x q) v c) ss)) after ∙ ap (λ l. ahead v q (unwind l ss)) back
-      ∙ sym (ap (λ o. replaced x t (ahead v o (unwind (set cells v c) ss))) here ∙ replaced-ahead x v (unwind (set cells v c) ss) t p e))
+    let here : getD cells v None ≡ Some p = ap (λ k. getD cells k None) e ∙ there in
+    let after : getD (set cells x q) v None ≡ q = ap (λ k. getD (set cells x q) k None) e ∙ getD-set-same cells x q None lt in
+    let back : set (set cells x q) v c ≡ set cells v c = ap (λ k. set (set cells x q) k c) e ∙ set-set cells x q c ∙ ap (λ k. set cells k c) (sym e) in
+    ap (λ o. ahead v o (unwind (set (set cells x q) v c) ss)) after ∙ ap (λ l. ahead v q (unwind l ss)) back
+    ∙ sym (ap (λ o. replaced x t (ahead v o (unwind (set cells v c) ss))) here ∙ replaced-ahead x v (unwind (set cells v c) ss) t p e))
     (λ ne.
-      let same : getD (set cells x q) v None ≡ getD cells v None = getD-set-other cells x v q None ne in
-      let back : set (set cells x q) v c ≡ set (set cells v c) x q = set-comm cells x v q c (λ e. ne (sym e)) in
-      let still : getD (set cells v c) x None ≡ Some p = getD-set-other cells v x c None (λ e. ne (sym e)) ∙ there in
-      let long : x < length (set cells v c) = simp length-set lt in
-      ap (λ o. ahead v o (unwind (set (set cells x q) v c) ss)) same ∙ ap (λ l. ahead v (getD cells v None) (unwind l ss)) back
-      ∙ ap (ahead v (getD cells v None)) (unwind-put x t p (set cells v c) ss long still (h′ .rest))
-      ∙ sym (replaced-behind x v (unwind (set cells v c) ss) t (getD cells v None) ne))
+    let same : getD (set cells x q) v None ≡ getD cells v None = getD-set-other cells x v q None ne in
+    let back : set (set cells x q) v c ≡ set (set cells v c) x q = set-comm cells x v q c (λ e. ne (sym e)) in
+    let still : getD (set cells v c) x None ≡ Some p = getD-set-other cells v x c None (λ e. ne (sym e)) ∙ there in
+    let long : x < length (set cells v c) = simp length-set lt in
+    ap (λ o. ahead v o (unwind (set (set cells x q) v c) ss)) same ∙ ap (λ l. ahead v (getD cells v None) (unwind l ss)) back
+    ∙ ap (ahead v (getD cells v None)) (unwind-put x t p (set cells v c) ss long still (h′ .rest))
+    ∙ sym (replaced-behind x v (unwind (set cells v c) ss) t (getD cells v None) ne))
     (cases-eq v x)
 
 pub sound-put : {T : Type 0} (x : ℕ) (q p : T × ℕ) (cells : List (Option (T × ℕ))) (ss : List (Saved T)) → x < length cells → getD cells x None ≡ Some p → sound cells ss ≡ true
-  → sound (set cells x (Some q)) ss ≡ true
+    → sound (set cells x (Some q)) ss ≡ true
 unfolding sound
 sound-put x q p cells [] lt there h = let no-thing = vacant-at cells h x in absurd (let z : _≡_ {A = ℕ} 0 1 = cc in omega arith)
 sound-put x q p cells (s ∷ ss) lt there h =
-  let h′ = sound-parts cells s ss h in
-  let v = s .variable in
-  let c = s .covered in
-  ⊎-elim
+    let h′ = sound-parts cells s ss h in
+    let v = s .variable in
+    let c = s .covered in
+    ⊎-elim
     (λ e.
-      let after : getD (set cells x (Some q)) v None ≡ Some q = ap (λ k. getD (set cells x (Some q)) k None) e ∙ getD-set-same cells x (Some q) None lt in
-      let back : set (set cells x (Some q)) v c ≡ set cells v c = ap (λ k. set (set cells x (Some q)) k c) e ∙ set-set cells x (Some q) c ∙ ap (λ k. set cells k c) (sym e) in
-      sound-from _ s ss (record { low = h′ .low; there = ap isSome after; rest = ap (λ l. sound l ss) back ∙ h′ .rest }))
+    let after : getD (set cells x (Some q)) v None ≡ Some q = ap (λ k. getD (set cells x (Some q)) k None) e ∙ getD-set-same cells x (Some q) None lt in
+    let back : set (set cells x (Some q)) v c ≡ set cells v c = ap (λ k. set (set cells x (Some q)) k c) e ∙ set-set cells x (Some q) c ∙ ap (λ k. set cells k c) (sym e) in
+    sound-from _ s ss (record { low = h′ .low; there = ap isSome after; rest = ap (λ l. sound l ss) back ∙ h′ .rest }))
     (λ ne.
-      let same : getD (set cells x (Some q)) v None ≡ getD cells v None = getD-set-other cells x v (Some q) None ne in
-      let back : set (set cells x (Some q)) v c ≡ set (set cells v c) x (Some q) = set-comm cells x v (Some q) c (λ e. ne (sym e)) in
-      let still : getD (set cells v c) x None ≡ Some p = getD-set-other cells v x c None (λ e. ne (sym e)) ∙ there in
-      let long : x < length (set cells v c) = simp length-set lt in
-      sound-from _ s ss (record { low = h′ .low; there = ap isSome same ∙ h′ .there; rest = ap (λ l. sound l ss) back ∙ sound-put x q p (set cells v c) ss long still (h′ .rest) }))
+    let same : getD (set cells x (Some q)) v None ≡ getD cells v None = getD-set-other cells x v (Some q) None ne in
+    let back : set (set cells x (Some q)) v c ≡ set (set cells v c) x (Some q) = set-comm cells x v (Some q) c (λ e. ne (sym e)) in
+    let still : getD (set cells v c) x None ≡ Some p = getD-set-other cells v x c None (λ e. ne (sym e)) ∙ there in
+    let long : x < length (set cells v c) = simp length-set lt in
+    sound-from _ s ss (record { low = h′ .low; there = ap isSome same ∙ h′ .there; rest = ap (λ l. sound l ss) back ∙ sound-put x q p (set cells v c) ss long still (h′ .rest) }))
     (cases-eq v x)

@@ -33,12 +33,12 @@ Others-same m m′ x = (y : ℕ) → (y ≡ x → ⊥) → look-of m′ y ≡ lo
 -- The newest binding of a variable is what it shows.
 abbrev pub Look-newest : Type 0 → Type 0
 Look-newest T = (m : Meaning T) (x : ℕ) (front rest : List (Binding T)) (b : Binding T) → x ≤ 31 → Newest m x front b rest
-  → look-of m x ≡ Ok (Some (b .thing, b .birthplace))
+    → look-of m x ≡ Ok (Some (b .thing, b .birthplace))
 
 -- After a bind the variable shows the new thing and birthplace, and the others what they showed.
 abbrev pub Bind-shows : Type 0 → Type 0
 Bind-shows T = (m m′ : Meaning T) (x : ℕ) (t : T) (b : ℕ) → (Ok tt, m′) ≡ bind-of m x t b
-  → (look-of m′ x ≡ Ok (Some (t, b))) × Others-same m m′ x
+    → (look-of m′ x ≡ Ok (Some (t, b))) × Others-same m m′ x
 
 -- An unbind after a bind gives back the meaning.
 abbrev pub Unbind-undoes : Type 0 → Type 0
@@ -47,18 +47,18 @@ Unbind-undoes T = (m m′ : Meaning T) (x : ℕ) (t : T) (b : ℕ) → (Ok tt, m
 -- While a binding of x stands, a put at x replaces the thing of its newest binding and nothing else: the top level stays as it was.
 abbrev pub Put-replaces : Type 0 → Type 0
 Put-replaces T = (m m′ : Meaning T) (x : ℕ) (t : T) (front rest : List (Binding T)) (b : Binding T) → Newest m x front b rest
-  → (Ok tt, m′) ≡ put-of m x t
-  → m′ ≡ record { bindings = front ++ (record { variable = b .variable; thing = t; birthplace = b .birthplace } ∷ rest); top = m .top; limit = m .limit }
+    → (Ok tt, m′) ≡ put-of m x t
+    → m′ ≡ record { bindings = front ++ (record { variable = b .variable; thing = t; birthplace = b .birthplace } ∷ rest); top = m .top; limit = m .limit }
 
 -- While none stands, the top level gets it, and the bindings stay as they were.
 abbrev pub Put-tops : Type 0 → Type 0
 Put-tops T = (m m′ : Meaning T) (x : ℕ) (t : T) → Free x (m .bindings) → (Ok tt, m′) ≡ put-of m x t
-  → m′ ≡ record { bindings = m .bindings; top = set (m .top) x (Some t); limit = m .limit }
+    → m′ ≡ record { bindings = m .bindings; top = set (m .top) x (Some t); limit = m .limit }
 
 -- After a put the variable shows the thing put with the birthplace that it showed before, and the others what they showed.
 abbrev pub Put-shows : Type 0 → Type 0
 Put-shows T = (m m′ : Meaning T) (x : ℕ) (t : T) (o : Option (T × ℕ)) → length (m .top) ≡ 32 → look-of m x ≡ Ok o → (Ok tt, m′) ≡ put-of m x t
-  → (look-of m′ x ≡ Ok (Some (t, birthplace-in o))) × Others-same m m′ x
+    → (look-of m′ x ≡ Ok (Some (t, birthplace-in o))) × Others-same m m′ x
 
 -- A refused call leaves the meaning as it was.
 pub record Refused-same (T : Type 0) : Type 0 where

@@ -40,14 +40,14 @@ clear-of {T} m = new-store T (m .limit)
 -- m with a new binding in front
 abbrev pub bound : {T : Type 0} → Meaning T → ℕ → T → ℕ → Meaning T
 bound m x t b =
-  record { bindings = record { variable = x; thing = t; birthplace = b } ∷ m .bindings; top = m .top; limit = m .limit }
+    record { bindings = record { variable = x; thing = t; birthplace = b } ∷ m .bindings; top = m .top; limit = m .limit }
 
 -- Bind puts a binding in front. It is refused if there is no such variable; else, exactly when the list is as long as the limit.
 -- As everywhere, a refused call changes nothing.
 abbrev pub bind-of : {T : Type 0} → Meaning T → ℕ → T → ℕ → Result (Unit {0}) Fault × Meaning T
 bind-of m x t b =
-  cond (ltb 31 x) (Err NoSuchVariable, m)
-  (cond (eqb (count-of m) (m .limit)) (Err StoreFull, m) (Ok tt, bound m x t b))
+    cond (ltb 31 x) (Err NoSuchVariable, m)
+    (cond (eqb (count-of m) (m .limit)) (Err StoreFull, m) (Ok tt, bound m x t b))
 
 abbrev pub unbound : {T : Type 0} → List (Binding T) → List (Option T) → ℕ → Result (Unit {0}) Fault × Meaning T
 unbound [] top n = (Err StoreEmpty, record { bindings = []; top = top; limit = n })
@@ -83,15 +83,16 @@ look-of m x = cond (ltb 31 x) (Err NoSuchVariable) (Ok (seen m x))
 abbrev pub replaced : {T : Type 0} → ℕ → T → List (Binding T) → List (Binding T)
 replaced x t [] = []
 replaced x t (b ∷ bs) =
-  cond (eqb (b .variable) x) (record { variable = b .variable; thing = t; birthplace = b .birthplace } ∷ bs) (b ∷ replaced x t bs)
+    cond (eqb (b .variable) x) (record { variable = b .variable; thing = t; birthplace = b .birthplace } ∷ bs) (b ∷ replaced x t bs)
 
 -- m with another thing for x: in its newest binding, or at the top level where it has none
 abbrev pub assigned : {T : Type 0} → Meaning T → ℕ → T → Meaning T
 assigned m x t =
-  record
-    { bindings = replaced x t (m .bindings)
-    ; top = cond (isSome (newest x (m .bindings))) (m .top) (set (m .top) x (Some t))
-    ; limit = m .limit }
+    record {
+      bindings = replaced x t (m .bindings);
+      top = cond (isSome (newest x (m .bindings))) (m .top) (set (m .top) x (Some t));
+      limit = m .limit;
+    }
 
 -- Put replaces the thing that look finds; where it finds none, the top level gets it.
 abbrev pub put-of : {T : Type 0} → Meaning T → ℕ → T → Result (Unit {0}) Fault × Meaning T

@@ -20,7 +20,7 @@ ahead x (Some p) bs = record { variable = x; thing = p .0; birthplace = p .1 } �
 unfoldable pub unwind : {T : Type 0} → List (Option (T × ℕ)) → List (Saved T) → List (Binding T)
 unwind cells [] = []
 unwind cells (s ∷ ss) =
-  ahead (s .variable) (getD cells (s .variable) None) (unwind (set cells (s .variable) (s .covered)) ss)
+    ahead (s .variable) (getD cells (s .variable) None) (unwind (set cells (s .variable) (s .covered)) ss)
 
 abbrev pub vacant : {X : Type 0} → List (Option X) → Bool
 vacant [] = true
@@ -30,8 +30,8 @@ vacant (o ∷ os) = not (isSome o) && vacant os
 unfoldable pub sound : {T : Type 0} → List (Option (T × ℕ)) → List (Saved T) → Bool
 sound cells [] = vacant cells
 sound cells (s ∷ ss) =
-  leb (s .variable) 31
-  && (isSome (getD cells (s .variable) None) && sound (set cells (s .variable) (s .covered)) ss)
+    leb (s .variable) 31
+    && (isSome (getD cells (s .variable) None) && sound (set cells (s .variable) (s .covered)) ss)
 
 -- what cells and the trail behind the first n of ss mean
 abbrev pub unwound : {T : Type 0} → List (Option (T × ℕ)) → List (Saved T) → ℕ → List (Option T) → Meaning T

@@ -22,7 +22,11 @@ impl<'a, T: Copy> Deep<'a, T> {
         ensures { λ r. ⌜ held (r .records .now) (r .free) (r .top .things) ≡ new-store T (length (now (records .entry))) ⌝ }
     {
         let free = records.len();
-        Deep { records, free, top: Top::empty() }
+        Deep {
+            records,
+            free,
+            top: Top::empty(),
+        }
     }
 
     // which record holds the newest binding of `variable`
@@ -74,7 +78,11 @@ pub impl<'a, T: Copy> Store for Deep<'a, T> as DeepStore {
             return Err(Fault::StoreFull);
         }
         let at = self.free - 1;
-        self.records[at] = Binding { variable, thing, birthplace };
+        self.records[at] = Binding {
+            variable,
+            thing,
+            birthplace,
+        };
         self.free = at;
         Ok(())
     }

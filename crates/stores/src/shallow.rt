@@ -26,7 +26,12 @@ impl<'a, T: Copy> Shallow<'a, T> {
         ensures { λ r. ⌜ unwound (r .cells .things) (r .trail .now) (r .free) (r .top .things) ≡ new-store T (length (now (trail .entry))) ⌝ }
     {
         let free = trail.len();
-        Shallow { trail, free, cells: Top::empty(), top: Top::empty() }
+        Shallow {
+            trail,
+            free,
+            cells: Top::empty(),
+            top: Top::empty(),
+        }
     }
 }
 

@@ -33,19 +33,19 @@ module _ (f : ℕ → ℕ) (v a : ℕ) (rs : List RawDefinition) (l : ℕ) where
   plain d x false y z b e = and-right x false refl
 
   rooted : (d : Definition) (x s y k z : Bool) (b : ℕ) → x && (y && z) ≡ defined f v b rs l
-    → x && ((s && y) && (k && z)) ≡ after f v rs l (cond s (cond k (Some (d, b)) None) None)
+      → x && ((s && y) && (k && z)) ≡ after f v rs l (cond s (cond k (Some (d, b)) None) None)
   rooted d x true y true z b e = e
   rooted d x true y false z b e = ap (λ u. x && u) (and-right y false refl) ∙ and-right x false refl
   rooted d x false y k z b e = and-right x false refl
 
   read-by : (o : Option Definition)
-    → (isSome o && all-decode rs) && script-right f v a (valueOr o (Input 0) ∷ map definition-of rs) l ≡ after f v rs l (definition-read f v a o)
+      → (isSome o && all-decode rs) && script-right f v a (valueOr o (Input 0) ∷ map definition-of rs) l ≡ after f v rs l (definition-read f v a o)
   read-by None = refl
   read-by (Some (Input x)) = plain (Input x) (all-decode rs) (ltb x v) (definitions-right v (map definition-of rs)) (covers f a (roots (map definition-of rs) ++ (l ∷ [])) (suc l)) a refl
   read-by (Some (Defvar x c)) =
-    rooted (Defvar x c) (all-decode rs) (ltb x v) (definitions-right v (map definition-of rs)) (eqb (f c) a) (covers f (suc c) (roots (map definition-of rs) ++ (l ∷ [])) (suc l)) (suc c) refl
+      rooted (Defvar x c) (all-decode rs) (ltb x v) (definitions-right v (map definition-of rs)) (eqb (f c) a) (covers f (suc c) (roots (map definition-of rs) ++ (l ∷ [])) (suc l)) (suc c) refl
   read-by (Some (Defun x y c)) =
-    rooted (Defun x y c) (all-decode rs) (ltb x v && ltb y v) (definitions-right v (map definition-of rs)) (eqb (f c) a) (covers f (suc c) (roots (map definition-of rs) ++ (l ∷ [])) (suc l)) (suc c) refl
+      rooted (Defun x y c) (all-decode rs) (ltb x v && ltb y v) (definitions-right v (map definition-of rs)) (eqb (f c) a) (covers f (suc c) (roots (map definition-of rs) ++ (l ∷ [])) (suc l)) (suc c) refl
 
   one-more : (r : RawDefinition) → defined f v a (r ∷ rs) l ≡ after f v rs l (read-definition f v a r)
   one-more r = read-by (decode-definition r)
@@ -54,17 +54,17 @@ root-is : (f : ℕ → ℕ) (a : ℕ) (d e : Definition) (b : ℕ) (o : Option �
 root-is f a d e b None h = ap (λ (o : Option (Definition × ℕ)). valueOr o (d, 0) .0) h
 root-is f a d e b (Some c) h = at (eqb (f c) a) h
   where
-  at : (k : Bool) → cond {A = Option (Definition × ℕ)} k (Some (d, suc c)) None ≡ Some (e, b) → d ≡ e
-  at true h = ap (λ (o : Option (Definition × ℕ)). valueOr o (d, 0) .0) h
-  at false h = absurd (let z : _≡_ {A = ℕ} 0 1 = cc in omega arith)
+    at : (k : Bool) → cond {A = Option (Definition × ℕ)} k (Some (d, suc c)) None ≡ Some (e, b) → d ≡ e
+    at true h = ap (λ (o : Option (Definition × ℕ)). valueOr o (d, 0) .0) h
+    at false h = absurd (let z : _≡_ {A = ℕ} 0 1 = cc in omega arith)
 
 read-is : (f : ℕ → ℕ) (v a : ℕ) (e : Definition) (b : ℕ) (o : Option Definition) → definition-read f v a o ≡ Some (e, b) → valueOr o (Input 0) ≡ e
 read-is f v a e b None h = absurd (let z : _≡_ {A = ℕ} 0 1 = cc in omega arith)
 read-is f v a e b (Some d) h = at (definition-right v d) h
   where
-  at : (k : Bool) → cond k (root-read f a d (root-of d)) None ≡ Some (e, b) → d ≡ e
-  at true h = root-is f a d e b (root-of d) h
-  at false h = absurd (let z : _≡_ {A = ℕ} 0 1 = cc in omega arith)
+    at : (k : Bool) → cond k (root-read f a d (root-of d)) None ≡ Some (e, b) → d ≡ e
+    at true h = root-is f a d e b (root-of d) h
+    at false h = absurd (let z : _≡_ {A = ℕ} 0 1 = cc in omega arith)
 
 -- the first i rows are read, and what is left decides whether all are right
 pub record DefinitionsSoFar (rows : List RawDefinition) (f : ℕ → ℕ) (v last i a : ℕ) (definitions : List Definition) : Type 0 where
@@ -80,23 +80,26 @@ module _ (rows : List RawDefinition) (f : ℕ → ℕ) (v last i a : ℕ) (defin
 
   pub one-undefined : (after′ : List Definition) → read-definition f v a (getD rows i r) ≡ None → DefinitionsRead rows f v last false after′
   one-undefined after′ h = record {
-      right = sym (ahead ∙ ap (after f v (drop (i + 1) rows) last) h);
-      read = λ e. absurd (let z : _≡_ {A = ℕ} 0 1 = cc in omega arith) }
+    right = sym (ahead ∙ ap (after f v (drop (i + 1) rows) last) h);
+    read = λ e. absurd (let z : _≡_ {A = ℕ} 0 1 = cc in omega arith);
+  }
 
   pub one-defined : (d : Definition) (b : ℕ) → i < length definitions → read-definition f v a (getD rows i r) ≡ Some (d, b) → DefinitionsSoFar rows f v last (i + 1) b (set definitions i d)
   one-defined d b room h = record {
-      rest = ahead ∙ ap (after f v (drop (i + 1) rows) last) h;
-      read = take-more-set definitions i d room ∙ ap (λ ds. ds ++ (d ∷ [])) (sofar .read)
-        ∙ ap (λ e. map definition-of (take i rows) ++ (e ∷ [])) (sym (read-is f v a d b (decode-definition (getD rows i r)) h)) ∙ sym (map-more definition-of rows i r lt) }
+    rest = ahead ∙ ap (after f v (drop (i + 1) rows) last) h;
+    read = take-more-set definitions i d room ∙ ap (λ ds. ds ++ (d ∷ [])) (sofar .read)
+        ∙ ap (λ e. map definition-of (take i rows) ++ (e ∷ [])) (sym (read-is f v a d b (decode-definition (getD rows i r)) h)) ∙ sym (map-more definition-of rows i r lt);
+  }
 
 pub all-defined : (rows : List RawDefinition) (f : ℕ → ℕ) (v last i a : ℕ) (definitions : List Definition) → length rows ≤ i → i ≤ length rows → DefinitionsSoFar rows f v last i a definitions
-  → DefinitionsRead rows f v last (eqb (f last) a) definitions
+    → DefinitionsRead rows f v last (eqb (f last) a) definitions
 all-defined rows f v last i a definitions ge le sofar =
-  let e : i ≡ length rows = omega arith in
-  record {
-    right = sym (sofar .rest ∙ ap (λ rs. defined f v a rs last) (drop-all i rows ge) ∙ at (eqb (f last) a));
-    read = λ _. ap (λ n. take n definitions) (sym e) ∙ sofar .read ∙ ap (map definition-of) (take-all i rows ge) }
+    let e : i ≡ length rows = omega arith in
+    record {
+      right = sym (sofar .rest ∙ ap (λ rs. defined f v a rs last) (drop-all i rows ge) ∙ at (eqb (f last) a));
+      read = λ _. ap (λ n. take n definitions) (sym e) ∙ sofar .read ∙ ap (map definition-of) (take-all i rows ge);
+    }
   where
-  at : (k : Bool) → (k && eqb (suc last) (suc last)) ≡ k
-  at true = eq-eqb (suc last) (suc last) refl
-  at false = refl
+    at : (k : Bool) → (k && eqb (suc last) (suc last)) ≡ k
+    at true = eq-eqb (suc last) (suc last) refl
+    at false = refl

@@ -30,14 +30,16 @@ module _ (ts : List Term) (l v : ℕ) (ds : List Definition) (n : ℕ) (fits : l
 
   pub term-is : (m : ℕ) (d : Term) → 1 ≤ m → m ≤ l → Some (getD ts (m - 1) d) ≡ find-term (script-in ts l v ds n) m
   term-is m d low high =
-    ap Some (at-is m d low high) ∙ sym (cond-true _ _ _ (and-from _ _ (le-leb 1 m low) (le-leb m (last (script-in ts l v ds n)) (rw (sym last-is) high))))
+      ap Some (at-is m d low high) ∙ sym (cond-true _ _ _ (and-from _ _ (le-leb 1 m low) (le-leb m (last (script-in ts l v ds n)) (rw (sym last-is) high))))
 
   pub no-term : (m : ℕ) → (1 ≤ m → m ≤ l → ⊥) → None ≡ find-term (script-in ts l v ds n) m
   no-term m h = sym (cond-false _ _ _ (elim (cases-lt m 1) [
-      inl a ↦ (and-left _ _ (lt-leb 1 m a))
+    | inl a ↦ (and-left _ _ (lt-leb 1 m a))
     | inr a ↦ (elim (cases-lt l m) [
-        inl b ↦ (and-right (leb 1 m) _ (lt-leb m (last (script-in ts l v ds n)) (rw (sym last-is) b)))
-      | inr b ↦ (absurd (h a b)) ]) ]))
+      | inl b ↦ (and-right (leb 1 m) _ (lt-leb m (last (script-in ts l v ds n)) (rw (sym last-is) b)))
+      | inr b ↦ (absurd (h a b))
+    ])
+  ]))
 
   pub above-is : (m : ℕ) (d : Term) → m < l → getD ts m d ≡ term-at (take l ts) (suc m)
   unfolding term-at
@@ -54,11 +56,11 @@ front xs n = ap (λ k. take k xs) (sub-zero n)
 -- a turn of the search among definitions
 module _ (ds : List Definition) (i : ℕ) (d : Definition) (lt : i < length ds) where
   pub parameter-turn : (b : ℕ) → defun-parameter ds b ≡ defun-parameter (drop i ds) b → (o : Option ℕ) → o ≡ parameter-for (getD ds i d) b
-    → defun-parameter ds b ≡ or-else o (defun-parameter (drop (i + 1) ds) b)
+      → defun-parameter ds b ≡ or-else o (defun-parameter (drop (i + 1) ds) b)
   parameter-turn b inv o e = inv ∙ ap (λ es. defun-parameter es b) (drop-more ds i d lt) ∙ ap (λ u. or-else u (defun-parameter (drop (i + 1) ds) b)) (sym e)
 
   pub input-turn : (x : ℕ) → input-among ds x ≡ input-among (drop i ds) x → (o : Bool) → o ≡ takes-input (getD ds i d) x
-    → input-among ds x ≡ (o || input-among (drop (i + 1) ds) x)
+      → input-among ds x ≡ (o || input-among (drop (i + 1) ds) x)
   input-turn x inv o e = inv ∙ ap (λ es. input-among es x) (drop-more ds i d lt) ∙ ap (λ u. u || input-among (drop (i + 1) ds) x) (sym e)
 
 -- where there is no term, nil quoted stands
@@ -66,6 +68,7 @@ pub nothing-there : (p : Script) (l : ℕ) → None ≡ find-term p l → term p
 unfolding term-at last
 nothing-there p zero e = refl
 nothing-there p (suc l) e = elim (cases-lt l (length (p .terms))) [
-    inl h ↦ (absurd (let k : None ≡ Some (term p (suc l)) = e ∙ cond-true _ _ _ (and-from _ _ (le-leb 1 (suc l) (omega arith)) (le-leb (suc l) (length (p .terms)) (omega arith))) in
+  | inl h ↦ (absurd (let k : None ≡ Some (term p (suc l)) = e ∙ cond-true _ _ _ (and-from _ _ (le-leb 1 (suc l) (omega arith)) (le-leb (suc l) (length (p .terms)) (omega arith))) in
       let z : _≡_ {A = ℕ} 0 1 = cc in omega arith))
-  | inr h ↦ (getD-past (p .terms) l (Quote 0) h) ]
+  | inr h ↦ (getD-past (p .terms) l (Quote 0) h)
+]

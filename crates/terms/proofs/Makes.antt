@@ -28,10 +28,12 @@ use Rattle.terms.specs.Reading.{TermsRead, FirstWrong, DefinitionsRead}
 wrong-none : (v : ℕ) (ts : List Term) (l : ℕ) (rs : List RawTerm) → wrong-from v ts l rs ≡ None → (m : ℕ) → l ≤ m → m < l + length rs → term-right v ts m ≡ true
 wrong-none v ts l [] h m low high = absurd (omega arith)
 wrong-none v ts l (r ∷ rs) h m low high = elim (cases-bool (isSome (decode r) && term-right v ts l)) [
-    inr q ↦ (absurd (let k : Some l ≡ None = sym (cond-false _ (wrong-from v ts (suc l) rs) (Some l) q) ∙ h in let z : _≡_ {A = ℕ} 0 1 = cc in omega arith))
+  | inr q ↦ (absurd (let k : Some l ≡ None = sym (cond-false _ (wrong-from v ts (suc l) rs) (Some l) q) ∙ h in let z : _≡_ {A = ℕ} 0 1 = cc in omega arith))
   | inl q ↦ (elim (cases-eq m l) [
-      inl e ↦ (subst (λ k. term-right v ts k ≡ true) (sym e) (and-parts _ _ q .1))
-    | inr n ↦ (wrong-none v ts (suc l) rs (sym (cond-true _ (wrong-from v ts (suc l) rs) (Some l) q) ∙ h) m (omega arith) (omega arith)) ]) ]
+    | inl e ↦ (subst (λ k. term-right v ts k ≡ true) (sym e) (and-parts _ _ q .1))
+    | inr n ↦ (wrong-none v ts (suc l) rs (sym (cond-true _ (wrong-from v ts (suc l) rs) (Some l) q) ∙ h) m (omega arith) (omega arith))
+  ])
+]
 
 pub terms-right-all : (v : ℕ) (ts : List Term) (n : ℕ) → ((m : ℕ) → 1 ≤ m → m ≤ n → term-right v ts m ≡ true) → terms-right v ts n ≡ true
 terms-right-all v ts zero h = refl
@@ -40,16 +42,16 @@ terms-right-all v ts (suc n) h = and-from _ _ (h (suc n) (omega arith) (omega ar
 pub terms-right-at : (v : ℕ) (ts : List Term) (n : ℕ) → terms-right v ts n ≡ true → (m : ℕ) → 1 ≤ m → m ≤ n → term-right v ts m ≡ true
 terms-right-at v ts zero h m a b = absurd (omega arith)
 terms-right-at v ts (suc n) h m a b =
-  let q = and-parts (term-right v ts (suc n)) (terms-right v ts n) h in
-  elim (cases-eq m (suc n)) [ inl e ↦ (subst (λ k. term-right v ts k ≡ true) (sym e) (q .0)) | inr k ↦ (terms-right-at v ts n (q .1) m a (omega arith)) ]
+    let q = and-parts (term-right v ts (suc n)) (terms-right v ts n) h in
+    elim (cases-eq m (suc n)) [ inl e ↦ (subst (λ k. term-right v ts k ≡ true) (sym e) (q .0)) | inr k ↦ (terms-right-at v ts n (q .1) m a (omega arith)) ]
 
 pub sizes : (a v n : ℕ) → sizes-right a v n ≡ true → (1 ≤ a) × (a ≤ 255) × (2 ≤ v) × (v ≤ 32) × (n ≤ 31)
 sizes a v n h =
-  let s0 = and-parts (leb 1 a) _ h in
-  let s1 = and-parts (leb a 255) _ (s0 .1) in
-  let s2 = and-parts (leb 2 v) _ (s1 .1) in
-  let s3 = and-parts (leb v 32) _ (s2 .1) in
-  (leb-true 1 a (s0 .0), leb-true a 255 (s1 .0), leb-true 2 v (s2 .0), leb-true v 32 (s3 .0), leb-true n 31 (s3 .1))
+    let s0 = and-parts (leb 1 a) _ h in
+    let s1 = and-parts (leb a 255) _ (s0 .1) in
+    let s2 = and-parts (leb 2 v) _ (s1 .1) in
+    let s3 = and-parts (leb v 32) _ (s2 .1) in
+    (leb-true 1 a (s0 .0), leb-true a 255 (s1 .0), leb-true 2 v (s2 .0), leb-true v 32 (s3 .0), leb-true n 31 (s3 .1))
 
 covers-same : (f g : ℕ → ℕ) → ((c : ℕ) → f c ≡ g c) → (a : ℕ) (cs : List ℕ) (z : ℕ) → covers f a cs z ≡ covers g a cs z
 covers-same f g e a [] z = refl
@@ -64,13 +66,13 @@ module _ (rows : List RawTerm) (v : ℕ) (ds : List RawDefinition) where
     pub wrong-term : (e : Fault) → FirstWrong rows v e → Err e ≡ program-of rows v ds
     unfolding program-of
     wrong-term e w =
-      ap Err (w .2) ∙ sym (cond-true _ _ _ sized ∙ ap (λ o. judged o (all-decode ds && script-right (first-at (map term-of rows)) v 1 (map definition-of ds) (length rows)) (script-of rows v ds)) (w .1))
+        ap Err (w .2) ∙ sym (cond-true _ _ _ sized ∙ ap (λ o. judged o (all-decode ds && script-right (first-at (map term-of rows)) v 1 (map definition-of ds) (length rows)) (script-of rows v ds)) (w .1))
 
     pub formed-of : wrong-from v (map term-of rows) 1 rows ≡ None → script-right (first-at (map term-of rows)) v 1 (map definition-of ds) (length rows) ≡ true → well-formed (script-of rows v ds) ≡ true
     unfolding well-formed
     formed-of none ok =
-      rw (length-map rows term-of, length-map ds definition-of)
-      (and-from _ _ sized (and-from _ _ (terms-right-all v (map term-of rows) (length rows) (λ m a b. wrong-none v (map term-of rows) 1 rows none m a (omega arith))) ok))
+        rw (length-map rows term-of, length-map ds definition-of)
+        (and-from _ _ sized (and-from _ _ (terms-right-all v (map term-of rows) (length rows) (λ m a b. wrong-none v (map term-of rows) 1 rows none m a (omega arith))) ok))
 
     module _ (terms : List Term) (firsts : List ℕ) (read : TermsRead rows v terms firsts) (ok : Bool) (definitions : List Definition)
         (defined : DefinitionsRead ds (λ c. getD firsts c 0) v (length rows) ok definitions) where
@@ -88,9 +90,9 @@ module _ (rows : List RawTerm) (v : ℕ) (ds : List RawDefinition) where
       module _ (yes-right : ok ≡ true) where
         pub script-is : script-in terms (length rows) v definitions (length ds) ≡ script-of rows v ds
         script-is =
-          let a : take (length rows) terms ≡ map term-of rows = read .read in
-          let b : take (length ds) definitions ≡ map definition-of ds = defined .read yes-right in
-          cc
+            let a : take (length rows) terms ≡ map term-of rows = read .read in
+            let b : take (length ds) definitions ≡ map definition-of ds = defined .read yes-right in
+            cc
 
         pub right-program : Ok (script-in terms (length rows) v definitions (length ds)) ≡ program-of rows v ds
         right-program = ap Ok script-is ∙ sym (made-is ∙ cond-true _ _ _ yes-right)

@@ -50,10 +50,11 @@ pub record Child (f : ℕ → ℕ) (a b z : ℕ) : Type 0 where
 cover-child : (f : ℕ → ℕ) (a : ℕ) (cs : List ℕ) (z b : ℕ) → Cover f a cs z → a ≤ b → b < z → Child f a b z
 cover-child f a [] z b v low high = absurd (omega arith)
 cover-child f a (c ∷ cs) z b v low high = elim (cases-lt c b) [
-    inl h ↦ (let r = cover-child f (suc c) cs z b (v .2) h high in
+  | inl h ↦ (let r = cover-child f (suc c) cs z b (v .2) h high in
       record { child = r .child; from = omega (arith, v .1, r .from); low = r .low; high = r .high; below = r .below })
   | inr h ↦ (let r : suc c ≤ z = cover-le f (suc c) cs z (v .2) in
-      record { child = c; from = omega (arith, v .0); low = omega (arith, v .0); high = h; below = r }) ]
+      record { child = c; from = omega (arith, v .0); low = omega (arith, v .0); high = h; below = r })
+]
 
 cover-last : (f : ℕ → ℕ) (a : ℕ) (cs : List ℕ) (l z : ℕ) → Cover f a (cs ++ (l ∷ [])) z → a ≤ l
 cover-last f a [] l z v = v .1
@@ -64,12 +65,13 @@ module _ (p : Script) (w : WellFormed p) where
   within : (n b c : ℕ) → c ≤ n → 1 ≤ c → c ≤ last p → b < c → first p c ≤ b → first p c ≤ first p b
   within zero b c s low high lt from = absurd (omega arith)
   within (suc n) b c s low high lt from =
-    let d = cover-child (first p) (first p c) (children (term p c)) c b (w .covered c low high) from lt in
-    let one : 1 ≤ first p c = w .begins c low high in
-    elim (cases-eq b (d .child)) [
-      inl e ↦ (let k : first p b ≡ first p (d .child) = ap (first p) e in omega (arith, d .from))
-    | inr ne ↦ (let r : first p (d .child) ≤ first p b = within n b (d .child) (omega (arith, d .below)) (omega (arith, d .from, d .low, d .high)) (omega (arith, d .below)) (omega (arith, d .high)) (d .low) in
-        omega (arith, d .from)) ]
+      let d = cover-child (first p) (first p c) (children (term p c)) c b (w .covered c low high) from lt in
+      let one : 1 ≤ first p c = w .begins c low high in
+      elim (cases-eq b (d .child)) [
+        | inl e ↦ (let k : first p b ≡ first p (d .child) = ap (first p) e in omega (arith, d .from))
+        | inr ne ↦ (let r : first p (d .child) ≤ first p b = within n b (d .child) (omega (arith, d .below)) (omega (arith, d .from, d .low, d .high)) (omega (arith, d .below)) (omega (arith, d .high)) (d .low) in
+            omega (arith, d .from))
+      ]
 
   pub nested : (b c : ℕ) → 1 ≤ c → c ≤ last p → b < c → first p c ≤ b → first p c ≤ first p b
   nested b c = within c b c (omega arith)
@@ -97,19 +99,21 @@ module _ (p : Script) (w : WellFormed p) where
 
   form-label : (b : ℕ) → isSome (bound-by (term p (suc b))) ≡ true → (1 ≤ b) × (b < last p)
   form-label b h = elim (cases-lt (last p) (suc b)) [
-      inl past ↦ (absurd (unlike (sym (ap (λ t. isSome (bound-by t)) (past-last b past)) ∙ h)))
+    | inl past ↦ (absurd (unlike (sym (ap (λ t. isSome (bound-by t)) (past-last b past)) ∙ h)))
     | inr le ↦ (let s : first p (suc b) ≤ b = body-some (term p (suc b)) (first p (suc b)) b h (w .covered (suc b) (omega arith) le) in
         let one : 1 ≤ first p (suc b) = w .begins (suc b) (omega arith) le in
-        (omega arith, omega arith)) ]
+        (omega arith, omega arith))
+  ]
 
   root-label : (ds : List Definition) (a l z b : ℕ) → Cover (first p) a (roots ds ++ (l ∷ [])) z → isSome (defun-parameter ds b) ≡ true → (a ≤ b) × (b < l)
   root-label [] a l z b v h = absurd (unlike h)
   root-label (Input x ∷ ds) a l z b v h = root-label ds a l z b v h
   root-label (Defvar x r ∷ ds) a l z b v h =
-    let k = root-label ds (suc r) l z b (v .2) h in (omega (arith, v .1, k .0), k .1)
+      let k = root-label ds (suc r) l z b (v .2) h in (omega (arith, v .1, k .0), k .1)
   root-label (Defun x y r ∷ ds) a l z b v h = elim (cases-bool (eqb r b)) [
-      inl e ↦ (let q : r ≡ b = eqb-true r b e in let k : suc r ≤ l = cover-last (first p) (suc r) (roots ds) l z (v .2) in (omega (arith, v .1), omega arith))
-    | inr e ↦ (let k = root-label ds (suc r) l z b (v .2) (sym (ap (λ u. isSome (or-else (cond u (Some y) None) (defun-parameter ds b))) e) ∙ h) in (omega (arith, v .1, k .0), k .1)) ]
+    | inl e ↦ (let q : r ≡ b = eqb-true r b e in let k : suc r ≤ l = cover-last (first p) (suc r) (roots ds) l z (v .2) in (omega (arith, v .1), omega arith))
+    | inr e ↦ (let k = root-label ds (suc r) l z b (v .2) (sym (ap (λ u. isSome (or-else (cond u (Some y) None) (defun-parameter ds b))) e) ∙ h) in (omega (arith, v .1, k .0), k .1))
+  ]
 
   either : (o q : Option ℕ) → isSome (or-else o q) ≡ true → (isSome o ≡ true) ⊎ (isSome q ≡ true)
   either None q h = inr h
@@ -119,8 +123,9 @@ module _ (p : Script) (w : WellFormed p) where
   pub binder-label : (b : ℕ) → isSome (binds p b) ≡ true → (1 ≤ b) × (b < last p)
   unfolding binds
   binder-label b h = elim (either (bound-by (term p (suc b))) (defun-parameter (p .definitions) b) h) [
-      inl k ↦ form-label b k
-    | inr k ↦ root-label (p .definitions) 1 (last p) (suc (last p)) b (w .rooted) k ]
+    | inl k ↦ form-label b k
+    | inr k ↦ root-label (p .definitions) 1 (last p) (suc (last p)) b (w .rooted) k
+  ]
 
   -- ---- variables
   bound-names : (t : Term) (x : ℕ) → bound-by t ≡ Some x → symbol-of t ≡ Some x
@@ -158,25 +163,26 @@ module _ (p : Script) (w : WellFormed p) where
   parameter-below v (Input y ∷ ds) b x h e = parameter-below v ds b x (and-parts (ltb y v) _ h .1) e
   parameter-below v (Defvar y r ∷ ds) b x h e = parameter-below v ds b x (and-parts (ltb y v) _ h .1) e
   parameter-below v (Defun y z r ∷ ds) b x h e = elim (cases-bool (eqb r b)) [
-      inl q ↦ (let k : Some z ≡ Some x = sym (ap (λ u. or-else (cond u (Some z) None) (defun-parameter ds b)) q) ∙ e in
+    | inl q ↦ (let k : Some z ≡ Some x = sym (ap (λ u. or-else (cond u (Some z) None) (defun-parameter ds b)) q) ∙ e in
         let f : z ≡ x = cc in
         let s : z < v = ltb-true z v (and-parts (ltb y v) _ (and-parts (ltb y v && ltb z v) _ h .0) .1) in omega arith)
-    | inr q ↦ (parameter-below v ds b x (and-parts (ltb y v && ltb z v) _ h .1) (sym (ap (λ u. or-else (cond u (Some z) None) (defun-parameter ds b)) q) ∙ e)) ]
+    | inr q ↦ (parameter-below v ds b x (and-parts (ltb y v && ltb z v) _ h .1) (sym (ap (λ u. or-else (cond u (Some z) None) (defun-parameter ds b)) q) ∙ e))
+  ]
 
   pub variable-below : (b x : ℕ) → binds p b ≡ Some x → x < 32
   unfolding binds
   variable-below b x e = at (bound-by (term p (suc b))) refl e
     where
-    at : (o : Option ℕ) → bound-by (term p (suc b)) ≡ o → or-else o (defun-parameter (p .definitions) b) ≡ Some x → x < 32
-    at None q e = let k : x < p .symbols = parameter-below (p .symbols) (p .definitions) b x (w .defined) e in omega (arith, w .few-symbols)
-    at (Some y) q e =
-      let s = form-label b (ap isSome q) in
-      let k : x < p .symbols = w .names (suc b) x (omega arith) (omega (arith, s .1)) (bound-names (term p (suc b)) x (q ∙ e)) in
-      omega (arith, w .few-symbols)
+      at : (o : Option ℕ) → bound-by (term p (suc b)) ≡ o → or-else o (defun-parameter (p .definitions) b) ≡ Some x → x < 32
+      at None q e = let k : x < p .symbols = parameter-below (p .symbols) (p .definitions) b x (w .defined) e in omega (arith, w .few-symbols)
+      at (Some y) q e =
+          let s = form-label b (ap isSome q) in
+          let k : x < p .symbols = w .names (suc b) x (omega arith) (omega (arith, s .1)) (bound-names (term p (suc b)) x (q ∙ e)) in
+          omega (arith, w .few-symbols)
 
   pub occurrence-below : (l x : ℕ) → 1 ≤ l → l ≤ last p → occurs (term p l) ≡ Some x → x < 32
   occurrence-below l x low high e =
-    let k : x < p .symbols = w .names l x low high (occurs-names (term p l) x e) in omega (arith, w .few-symbols)
+      let k : x < p .symbols = w .names l x low high (occurs-names (term p l) x e) in omega (arith, w .few-symbols)
 
 -- a function body is a binder
 lambda-bound : (t : Term) (o : Option ℕ) → isSome (or-else (lambda-variable t) o) ≡ true → isSome (or-else (bound-by t) o) ≡ true

@@ -41,7 +41,7 @@ module _ (k a b c : ℕ) where
   -- of kind n, with the unused numbers zero
   one : (n : ℕ) (t : Term) → row n a 0 0 ≡ row-of t → eqb k n ≡ true → Here (only (eqb b 0 && eqb c 0) t)
   one n t e h = by row-of _ (eqb b 0 && eqb c 0) (Some t) None
-    (λ q. cc (eqb-true k n h, eqb-true b 0 (and-parts _ (eqb c 0) q .0), eqb-true c 0 (and-parts (eqb b 0) _ q .1))) tt
+      (λ q. cc (eqb-true k n h, eqb-true b 0 (and-parts _ (eqb c 0) q .0), eqb-true c 0 (and-parts (eqb b 0) _ q .1))) tt
 
   two : (n : ℕ) (t : Term) → row n a b 0 ≡ row-of t → eqb k n ≡ true → Here (only (eqb c 0) t)
   two n t e h = by row-of _ (eqb c 0) (Some t) None (λ q. cc (eqb-true k n h, eqb-true c 0 q)) tt
@@ -54,18 +54,18 @@ module _ (k a b c : ℕ) where
 
   kinds : Here (of-kind k a b c)
   kinds =
-    kind 2 _ _ (one 2 (Quote a) refl)
-    (kind 3 _ _ (two 3 (Lambda a b) refl)
-    (kind 4 _ _ (one 4 (Variable a) refl)
-    (kind 5 _ _ (two 5 (Setq a b) refl)
-    (kind 6 _ _ (three 6 (Let a b c) refl)
-    (kind 7 _ _ (three 7 (If a b c) refl)
-    (kind 8 _ _ (two 8 (Apply a b) refl)
-    (kind 9 _ _ (two 9 (Cons a b) refl)
-    (kind 10 _ _ (one 10 (Car a) refl)
-    (kind 11 _ _ (one 11 (Cdr a) refl)
-    (kind 12 _ _ (two 12 (Add a b) refl)
-    (kind 13 _ _ (two 13 (Same a b) refl) tt)))))))))))
+      kind 2 _ _ (one 2 (Quote a) refl)
+      (kind 3 _ _ (two 3 (Lambda a b) refl)
+      (kind 4 _ _ (one 4 (Variable a) refl)
+      (kind 5 _ _ (two 5 (Setq a b) refl)
+      (kind 6 _ _ (three 6 (Let a b c) refl)
+      (kind 7 _ _ (three 7 (If a b c) refl)
+      (kind 8 _ _ (two 8 (Apply a b) refl)
+      (kind 9 _ _ (two 9 (Cons a b) refl)
+      (kind 10 _ _ (one 10 (Car a) refl)
+      (kind 11 _ _ (one 11 (Cdr a) refl)
+      (kind 12 _ _ (two 12 (Add a b) refl)
+      (kind 13 _ _ (two 13 (Same a b) refl) tt)))))))))))
 
   decodes : Here (decode (row k a b c))
   decodes = kind 1 _ _ (one 1 (Number a) refl) (by row-of _ (leb a 255 && (leb b 255 && leb c 255)) _ None (λ _. kinds) tt)
@@ -76,20 +76,20 @@ row-written r h = since row-of r (Quote 0) (decode r) (decodes (r .kind) (r .a) 
 module _ (k x y c : ℕ) where
   defines : Writes row-of-definition (definition-row k x y c) (decode-definition (definition-row k x y c))
   defines =
-    by row-of-definition _ (leb x 255 && (leb y 255 && leb c 255)) _ None
+      by row-of-definition _ (leb x 255 && (leb y 255 && leb c 255)) _ None
       (λ _. by row-of-definition _ (eqb k 1) _ _
-        (λ h. by row-of-definition _ (eqb y 0 && eqb c 0) (Some (Input x)) None
-          (λ q. cc (eqb-true k 1 h, eqb-true y 0 (and-parts _ (eqb c 0) q .0), eqb-true c 0 (and-parts (eqb y 0) _ q .1))) tt)
+      (λ h. by row-of-definition _ (eqb y 0 && eqb c 0) (Some (Input x)) None
+      (λ q. cc (eqb-true k 1 h, eqb-true y 0 (and-parts _ (eqb c 0) q .0), eqb-true c 0 (and-parts (eqb y 0) _ q .1))) tt)
       (by row-of-definition _ (eqb k 2) _ _
-        (λ h. by row-of-definition _ (eqb y 0) (Some (Defvar x c)) None (λ q. cc (eqb-true k 2 h, eqb-true y 0 q)) tt)
+      (λ h. by row-of-definition _ (eqb y 0) (Some (Defvar x c)) None (λ q. cc (eqb-true k 2 h, eqb-true y 0 q)) tt)
       (by row-of-definition _ (eqb k 3) (Some (Defun x y c)) None (λ h. cc (eqb-true k 3 h)) tt))) tt
 
 pub definitions-written : (rs : List RawDefinition) → all-decode rs ≡ true → rs ≡ map row-of-definition (map definition-of rs)
 definitions-written [] h = refl
 definitions-written (r ∷ rs) h =
-  let q = and-parts (isSome (decode-definition r)) (all-decode rs) h in
-  let e = since row-of-definition r (Input 0) (decode-definition r) (defines (r .kind) (r .x) (r .y) (r .root)) (q .0) in
-  let es = definitions-written rs (q .1) in cc
+    let q = and-parts (isSome (decode-definition r)) (all-decode rs) h in
+    let e = since row-of-definition r (Input 0) (decode-definition r) (defines (r .kind) (r .x) (r .y) (r .root)) (q .0) in
+    let es = definitions-written rs (q .1) in cc
 
 -- ---- from what a row is written for back to it: labels and symbols are bytes
 
@@ -133,19 +133,19 @@ Back ds = (all-decode (map row-of-definition ds) ≡ true) × (map definition-of
 
 back : (d : Definition) (ds : List Definition) → decode-definition (row-of-definition d) ≡ Some d → Back ds → Back (d ∷ ds)
 back d ds e h =
-  let f : definition-of (row-of-definition d) ≡ d = ap (λ o. valueOr o (Input 0)) e in
-  let fs = h .1 in
-  (and-from _ _ (ap isSome e) (h .0), cc)
+    let f : definition-of (row-of-definition d) ≡ d = ap (λ o. valueOr o (Input 0)) e in
+    let fs = h .1 in
+    (and-from _ _ (ap isSome e) (h .0), cc)
 
 pub definitions-back : (v : ℕ) (ds : List Definition) (cs : List ℕ) → v ≤ 32 → definitions-right v ds ≡ true → Bytes (roots ds ++ cs) → Back ds
 definitions-back v [] cs few h b = (refl, refl)
 definitions-back v (Input x ∷ ds) cs few h b =
-  let q = and-parts (ltb x v) (definitions-right v ds) h in
-  back (Input x) ds (bytes x 0 0 (Some (Input x)) (omega (arith, ltb-true x v (q .0))) (omega arith) (omega arith)) (definitions-back v ds cs few (q .1) b)
+    let q = and-parts (ltb x v) (definitions-right v ds) h in
+    back (Input x) ds (bytes x 0 0 (Some (Input x)) (omega (arith, ltb-true x v (q .0))) (omega arith) (omega arith)) (definitions-back v ds cs few (q .1) b)
 definitions-back v (Defvar x c ∷ ds) cs few h b =
-  let q = and-parts (ltb x v) (definitions-right v ds) h in
-  back (Defvar x c) ds (bytes x 0 c (Some (Defvar x c)) (omega (arith, ltb-true x v (q .0))) (omega arith) (b .0)) (definitions-back v ds cs few (q .1) (b .1))
+    let q = and-parts (ltb x v) (definitions-right v ds) h in
+    back (Defvar x c) ds (bytes x 0 c (Some (Defvar x c)) (omega (arith, ltb-true x v (q .0))) (omega arith) (b .0)) (definitions-back v ds cs few (q .1) (b .1))
 definitions-back v (Defun x y c ∷ ds) cs few h b =
-  let q = and-parts (ltb x v && ltb y v) (definitions-right v ds) h in
-  let n = and-parts (ltb x v) (ltb y v) (q .0) in
-  back (Defun x y c) ds (bytes x y c (Some (Defun x y c)) (omega (arith, ltb-true x v (n .0))) (omega (arith, ltb-true y v (n .1))) (b .0)) (definitions-back v ds cs few (q .1) (b .1))
+    let q = and-parts (ltb x v && ltb y v) (definitions-right v ds) h in
+    let n = and-parts (ltb x v) (ltb y v) (q .0) in
+    back (Defun x y c) ds (bytes x y c (Some (Defun x y c)) (omega (arith, ltb-true x v (n .0))) (omega (arith, ltb-true y v (n .1))) (b .0)) (definitions-back v ds cs few (q .1) (b .1))

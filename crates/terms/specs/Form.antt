@@ -108,6 +108,6 @@ unfoldable pub program-of : List RawTerm → ℕ → List RawDefinition → Resu
 program-of ts v ds =
     cond (sizes-right (length ts) v (length ds))
     (judged (wrong-from v (map term-of ts) 1 ts)
-      (all-decode ds && script-right (first-at (map term-of ts)) v 1 (map definition-of ds) (length ts))
-      (script-of ts v ds))
+    (all-decode ds && script-right (first-at (map term-of ts)) v 1 (map definition-of ds) (length ts))
+    (script-of ts v ds))
     (Err ProgramSizes)

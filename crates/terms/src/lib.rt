@@ -6,6 +6,5 @@ mod term;
 pub use program::Program;
 pub use raw::RawDefinition;
 pub use raw::RawTerm;
-pub use term::Children;
 pub use term::Definition;
 pub use term::Term;

@@ -22,7 +22,11 @@ fn ends_below(firsts: &[u8], child: u8, next: u8) -> Option<u8>
     requires { ⌜ length (now firsts) ≡ 256 ⌝ }
     ensures { λ r. ⌜ r ≡ ends-below (λ c. getD (now (firsts .entry)) c 0) child next ⌝ }
 {
-    if child > 0 && u16::from(child) + 1 == u16::from(next) { Some(firsts[child as usize]) } else { None }
+    if child > 0 && u16::from(child) + 1 == u16::from(next) {
+        Some(firsts[child as usize])
+    } else {
+        None
+    }
 }
 
 // Where the children begin that should end just below `label`; none if they do not.
@@ -61,7 +65,12 @@ fn read_term(firsts: &[u8], symbols: u32, row: RawTerm, label: u8) -> Option<(Te
 }
 
 // Reads every row in the order of the labels, and refuses the first that is wrong.
-pub(crate) fn read_terms(rows: &[RawTerm], symbols: u32, terms: &mut [Term], firsts: &mut [u8]) -> Result<(), Fault>
+pub(crate) fn read_terms(
+    rows: &[RawTerm],
+    symbols: u32,
+    terms: &mut [Term],
+    firsts: &mut [u8],
+) -> Result<(), Fault>
     requires { ⌜ length (now rows) ≤ 255 ⌝ ∗ ⌜ length (now terms) ≡ 255 ⌝ ∗ ⌜ now firsts ≡ replicate 256 0 ⌝ }
     ensures { λ r. ⌜ Cases r
         (λ _. TermsRead (now (rows .entry)) symbols (now (terms .exit)) (now (firsts .exit)))
@@ -79,7 +88,12 @@ pub(crate) fn read_terms(rows: &[RawTerm], symbols: u32, terms: &mut [Term], fir
 }
 
 // The definition that a row stands for, and up to where the roots cover the labels with it; none if it breaks the rules.
-fn read_definition(firsts: &[u8], symbols: u32, covered: usize, row: RawDefinition) -> Option<(Definition, usize)>
+fn read_definition(
+    firsts: &[u8],
+    symbols: u32,
+    covered: usize,
+    row: RawDefinition,
+) -> Option<(Definition, usize)>
     requires { ⌜ length (now firsts) ≡ 256 ⌝ }
     ensures { λ r. ⌜ r ≡ read-definition (λ c. getD (now (firsts .entry)) c 0) symbols covered row ⌝ }
 {
@@ -90,13 +104,23 @@ fn read_definition(firsts: &[u8], symbols: u32, covered: usize, row: RawDefiniti
     match definition.root() {
         None => Some((definition, covered)),
         Some(root) => {
-            if firsts[root as usize] as usize == covered { Some((definition, root as usize + 1)) } else { None }
+            if firsts[root as usize] as usize == covered {
+                Some((definition, root as usize + 1))
+            } else {
+                None
+            }
         }
     }
 }
 
 // Reads every definition, and tells whether they keep the rules.
-pub(crate) fn read_definitions(rows: &[RawDefinition], symbols: u32, firsts: &[u8], last: u8, definitions: &mut [Definition]) -> bool
+pub(crate) fn read_definitions(
+    rows: &[RawDefinition],
+    symbols: u32,
+    firsts: &[u8],
+    last: u8,
+    definitions: &mut [Definition],
+) -> bool
     requires { ⌜ length (now rows) ≤ 31 ⌝ ∗ ⌜ length (now definitions) ≡ 31 ⌝ ∗ ⌜ length (now firsts) ≡ 256 ⌝ }
     ensures { λ r. ⌜ DefinitionsRead (now (rows .entry)) (λ c. getD (now (firsts .entry)) c 0) symbols last r (now (definitions .exit)) ⌝ }
 {

@@ -25,7 +25,7 @@ pub enum Term {
 
 // The labels of a term's children, in order.
 #[derive(Clone, Copy)]
-pub enum Children {
+pub(crate) enum Children {
     Zero,
     One(u8),
     Two(u8, u8),
@@ -35,18 +35,31 @@ pub enum Children {
 // A definition of the script, carried out before its entry term.
 #[derive(Clone, Copy)]
 pub enum Definition {
-    Input { variable: u8 },
-    Defvar { variable: u8, root: u8 },
-    Defun { variable: u8, parameter: u8, root: u8 },
+    Input {
+        variable: u8,
+    },
+    Defvar {
+        variable: u8,
+        root: u8,
+    },
+    Defun {
+        variable: u8,
+        parameter: u8,
+        root: u8,
+    },
 }
 
 impl Term {
     // The term that a row stands for, if its kind exists, its labels and symbols are bytes and its unused numbers are zero.
-    pub fn decode(row: RawTerm) -> Option<Term>
+    pub(crate) fn decode(row: RawTerm) -> Option<Term>
         ensures { λ r. ⌜ r ≡ decode row ⌝ }
     {
         if row.kind == 1 {
-            return if row.b == 0 && row.c == 0 { Some(Term::Number(row.a)) } else { None };
+            return if row.b == 0 && row.c == 0 {
+                Some(Term::Number(row.a))
+            } else {
+                None
+            };
         }
         if row.a > 255 || row.b > 255 || row.c > 255 {
             return None;
@@ -63,9 +76,20 @@ impl Term {
             (3, body, 0) => Some(Term::Lambda { variable: a, body }),
             (4, 0, 0) => Some(Term::Variable(a)),
             (5, value, 0) => Some(Term::Setq { variable: a, value }),
-            (6, value, body) => Some(Term::Let { variable: a, value, body }),
-            (7, then, otherwise) => Some(Term::If { test: a, then, otherwise }),
-            (8, operand, 0) => Some(Term::Apply { operator: a, operand }),
+            (6, value, body) => Some(Term::Let {
+                variable: a,
+                value,
+                body,
+            }),
+            (7, then, otherwise) => Some(Term::If {
+                test: a,
+                then,
+                otherwise,
+            }),
+            (8, operand, 0) => Some(Term::Apply {
+                operator: a,
+                operand,
+            }),
             (9, second, 0) => Some(Term::Cons { first: a, second }),
             (10, 0, 0) => Some(Term::Car(a)),
             (11, 0, 0) => Some(Term::Cdr(a)),
@@ -75,7 +99,7 @@ impl Term {
         }
     }
 
-    pub fn children(&self) -> Children
+    pub(crate) fn children(&self) -> Children
         ensures { λ r. ⌜ listed r ≡ children (now (self .entry)) ⌝ }
     {
         match *self {
@@ -87,12 +111,16 @@ impl Term {
             Term::Apply { operator, operand } => Children::Two(operator, operand),
             Term::Cons { first, second } => Children::Two(first, second),
             Term::Add { left, right } | Term::Same { left, right } => Children::Two(left, right),
-            Term::If { test, then, otherwise } => Children::Three(test, then, otherwise),
+            Term::If {
+                test,
+                then,
+                otherwise,
+            } => Children::Three(test, then, otherwise),
         }
     }
 
     // The variable that a let or a lambda binds in its body.
-    pub fn bound(&self) -> Option<u8>
+    pub(crate) fn bound(&self) -> Option<u8>
         ensures { λ r. ⌜ r ≡ bound-by (now (self .entry)) ⌝ }
     {
         match *self {
@@ -102,7 +130,7 @@ impl Term {
     }
 
     // The parameter of a lambda.
-    pub fn parameter(&self) -> Option<u8>
+    pub(crate) fn parameter(&self) -> Option<u8>
         ensures { λ r. ⌜ r ≡ lambda-variable (now (self .entry)) ⌝ }
     {
         match *self {
@@ -122,13 +150,15 @@ impl Term {
     }
 
     // The symbol that the term quotes, or the variable that it names.
-    pub fn symbol(&self) -> Option<u8>
+    pub(crate) fn symbol(&self) -> Option<u8>
         ensures { λ r. ⌜ r ≡ symbol-of (now (self .entry)) ⌝ }
     {
         match *self {
             Term::Quote(symbol) => Some(symbol),
             Term::Variable(variable) => Some(variable),
-            Term::Lambda { variable, .. } | Term::Setq { variable, .. } | Term::Let { variable, .. } => Some(variable),
+            Term::Lambda { variable, .. }
+            | Term::Setq { variable, .. }
+            | Term::Let { variable, .. } => Some(variable),
             _ => None,
         }
     }
@@ -136,7 +166,7 @@ impl Term {
 
 impl Definition {
     // The definition that a row stands for, if its kind exists, its numbers are bytes and the unused ones are zero.
-    pub fn decode(row: RawDefinition) -> Option<Definition>
+    pub(crate) fn decode(row: RawDefinition) -> Option<Definition>
         ensures { λ r. ⌜ r ≡ decode-definition row ⌝ }
     {
         if row.x > 255 || row.y > 255 || row.root > 255 {
@@ -146,33 +176,48 @@ impl Definition {
         match (row.kind, row.y as u8, row.root as u8) {
             (1, 0, 0) => Some(Definition::Input { variable }),
             (2, 0, root) => Some(Definition::Defvar { variable, root }),
-            (3, parameter, root) => Some(Definition::Defun { variable, parameter, root }),
+            (3, parameter, root) => Some(Definition::Defun {
+                variable,
+                parameter,
+                root,
+            }),
             _ => None,
         }
     }
 
     // Whether each symbol that the definition names is below `symbols`.
-    pub fn names_below(&self, symbols: u32) -> bool
+    pub(crate) fn names_below(&self, symbols: u32) -> bool
         ensures { λ r. ⌜ r ≡ definition-right symbols (now (self .entry)) ⌝ }
     {
         match *self {
-            Definition::Input { variable } | Definition::Defvar { variable, .. } => u32::from(variable) < symbols,
-            Definition::Defun { variable, parameter, .. } => u32::from(variable) < symbols && u32::from(parameter) < symbols,
+            Definition::Input { variable } | Definition::Defvar { variable, .. } => u32::from(
+                variable,
+            )
+                < symbols,
+            Definition::Defun {
+                variable,
+                parameter,
+                ..
+            } => u32::from(variable) < symbols && u32::from(parameter) < symbols,
         }
     }
 
     // The parameter, if this is a defun whose body is `body`.
-    pub fn parameter_for(&self, body: u8) -> Option<u8>
+    pub(crate) fn parameter_for(&self, body: u8) -> Option<u8>
         ensures { λ r. ⌜ r ≡ parameter-for (now (self .entry)) body ⌝ }
     {
         match *self {
-            Definition::Defun { parameter, root, .. } if root == body => Some(parameter),
+            Definition::Defun {
+                parameter,
+                root,
+                ..
+            } if root == body => Some(parameter),
             _ => None,
         }
     }
 
     // Whether this takes `variable` as an input.
-    pub fn takes_input(&self, variable: u8) -> bool
+    pub(crate) fn takes_input(&self, variable: u8) -> bool
         ensures { λ r. ⌜ r ≡ takes-input (now (self .entry)) variable ⌝ }
     {
         match *self {
@@ -182,7 +227,7 @@ impl Definition {
     }
 
     // The root term, which an input has not.
-    pub fn root(&self) -> Option<u8>
+    pub(crate) fn root(&self) -> Option<u8>
         ensures { λ r. ⌜ r ≡ root-of (now (self .entry)) ⌝ }
     {
         match *self {

@@ -11,7 +11,10 @@ impl Scopes {
     pub(crate) fn none() -> Self
         ensures { λ r. ⌜ open-scopes r ≡ [] ⌝ }
     {
-        let slots = [Scope { binder: 0, function: 0 }; 255];
+        let slots = [Scope {
+            binder: 0,
+            function: 0,
+        }; 255];
         Scopes { slots, free: 255 }
     }
 
@@ -19,7 +22,14 @@ impl Scopes {
     pub(crate) fn innermost(&self) -> Scope
         ensures { λ r. ⌜ r ≡ innermost (open-scopes (now (self .entry))) ⌝ }
     {
-        if self.free < 255 { self.slots[self.free] } else { Scope { binder: 0, function: 0 } }
+        if self.free < 255 {
+            self.slots[self.free]
+        } else {
+            Scope {
+                binder: 0,
+                function: 0,
+            }
+        }
     }
 
     pub(crate) fn enter(&mut self, scope: Scope)

@@ -20,7 +20,11 @@ impl Program {
     pub fn term(&self, label: u8) -> Option<Term>
         ensures { λ r. ⌜ r ≡ find-term (model (now (self .entry))) label ⌝ }
     {
-        if 1 <= label && label <= self.last { Some(self.terms[label as usize - 1]) } else { None }
+        if 1 <= label && label <= self.last {
+            Some(self.terms[label as usize - 1])
+        } else {
+            None
+        }
     }
 
     // The first label of a term's span; 0 where no term is.
@@ -34,7 +38,11 @@ impl Program {
     fn above(&self, label: u8) -> Term
         ensures { λ r. ⌜ r ≡ term (model (now (self .entry))) (suc label) ⌝ }
     {
-        if label < self.last { self.terms[label as usize] } else { Term::Quote(0) }
+        if label < self.last {
+            self.terms[label as usize]
+        } else {
+            Term::Quote(0)
+        }
     }
 
     // The parameter of the defun whose body this is.

@@ -20,7 +20,11 @@ fn sizes_right(terms: usize, symbols: u32, definitions: usize) -> bool
 
 impl Program {
     // The program that the rows make, or the refusal: of the sizes, then of the first wrong label, then of the definitions.
-    pub fn make(terms: &[RawTerm], symbols: u32, definitions: &[RawDefinition]) -> Result<Program, Fault>
+    pub fn make(
+        terms: &[RawTerm],
+        symbols: u32,
+        definitions: &[RawDefinition],
+    ) -> Result<Program, Fault>
         ensures result { λ r. ⌜ made-script r ≡ program-of (now (terms .entry)) symbols (now (definitions .entry)) ⌝ }
         ensures exactly { λ _. ⌜ Exactly (now (terms .entry)) symbols (now (definitions .entry)) ⌝ }
         ensures first { λ _. ⌜ First-wrong (now (terms .entry)) symbols (now (definitions .entry)) ⌝ }
@@ -37,6 +41,13 @@ impl Program {
         if !read_definitions(definitions, symbols, &firsts, last, &mut list) {
             return Err(Fault::WrongDefinitions);
         }
-        Ok(Program { terms: table, last, symbols: symbols as u8, definitions: list, count, firsts })
+        Ok(Program {
+            terms: table,
+            last,
+            symbols: symbols as u8,
+            definitions: list,
+            count,
+            firsts,
+        })
     }
 }

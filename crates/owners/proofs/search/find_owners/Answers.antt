@@ -14,11 +14,16 @@ use Rattle.owners.proofs.search.find_owners.Needs as need
 
 pub visit-all-requires : need.visit-all-requires
 visit-all-requires g c κs =
-  let same : g .S·Store .meaning (c .clear .last .self) .limit ≡ g .S·Store .meaning (c .args .store .now) .limit = ap (λ (u : Meaning ℕ). u .limit) (c .clear .ensures) in
-  (omega (arith, c .limit .ensures .answer, c .if-limit-lt255 .left),
-   (cleared-new (g .S·Store .meaning (c .args .store .now)) _ (c .clear .ensures),
-    (c .fill .ensures .after (λ y e. e) ∙ ap (λ n. replicate n 0) (c .if-owners-ne256 .left),
-     c .fill-2 .ensures .after (λ y e. e) ∙ ap (λ n. replicate n 0) (c .if-captured-ne256 .left))))
+    let same : g .S·Store .meaning (c .clear .last .self) .limit ≡ g .S·Store .meaning (c .args .store .now) .limit = ap (λ (u : Meaning ℕ). u .limit) (c .clear .ensures) in (
+      omega (arith, c .limit .ensures .answer, c .if-limit-lt255 .left),
+      (
+        cleared-new (g .S·Store .meaning (c .args .store .now)) _ (c .clear .ensures),
+        (
+          c .fill .ensures .after (λ y e. e) ∙ ap (λ n. replicate n 0) (c .if-owners-ne256 .left),
+          c .fill-2 .ensures .after (λ y e. e) ∙ ap (λ n. replicate n 0) (c .if-captured-ne256 .left),
+        ),
+      ),
+    )
 
 law : (p : Program) (l : ℕ) → Owned (model p) l
 law p l = owned (model p) (facts-of (model p) (p .formed)) l

@@ -15,7 +15,7 @@ loop-store-holds g c = (refl, ap (λ bs. record { bindings = bs; top = g .S·Sto
 
 pub returns-in-Break-unbind : need.returns-in-Break-unbind
 returns-in-Break-unbind g c =
-  absurd (
+    absurd (
     let p = model (c .args .program .now) in
     let ss = open-scopes (c .loop-store .scopes) in
     let e : c .first .result ≡ first p (innermost ss .binder) = c .first .ensures ∙ ap (λ s. first p (s .binder)) (c .innermost .ensures) in
@@ -25,25 +25,27 @@ returns-in-Break-unbind g c =
 
 pub loop-store-again : need.loop-store-again
 loop-store-again g c =
-  let p = model (c .args .program .now) in
-  let ss = open-scopes (c .loop-store .scopes) in
-  let e : c .first .result ≡ first p (innermost ss .binder) = c .first .ensures ∙ ap (λ s. first p (s .binder)) (c .innermost .ensures) in
-  (c .loop-store .inv .0 ∙ left-more p (c .args .label) ss (omega arith) ∙ ap (left-at p (c .args .label)) (sym (c .leave .ensures)),
-   leaves-held p (c .args .label) (g .S·Store .meaning (c .args .store .now)) _ _ _ ss _ (c .unbind .ensures) (c .loop-store .inv .1) (omega arith) (c .leave .ensures))
+    let p = model (c .args .program .now) in
+    let ss = open-scopes (c .loop-store .scopes) in
+    let e : c .first .result ≡ first p (innermost ss .binder) = c .first .ensures ∙ ap (λ s. first p (s .binder)) (c .innermost .ensures) in (
+      c .loop-store .inv .0 ∙ left-more p (c .args .label) ss (omega arith) ∙ ap (left-at p (c .args .label)) (sym (c .leave .ensures)),
+      leaves-held p (c .args .label) (g .S·Store .meaning (c .args .store .now)) _ _ _ ss _ (c .unbind .ensures) (c .loop-store .inv .1) (omega arith) (c .leave .ensures),
+    )
 
 pub loop-store-less : need.loop-store-less
 loop-store-less g c =
-  let p = model (c .args .program .now) in
-  let ss = open-scopes (c .loop-store .scopes) in
-  let e : c .first .result ≡ first p (innermost ss .binder) = c .first .ensures ∙ ap (λ s. first p (s .binder)) (c .innermost .ensures) in
-  leaves-fewer p (c .args .label) (g .S·Store .meaning (c .args .store .now)) _ _ _ ss _ (c .unbind .ensures) (c .loop-store .inv .1) (omega arith) (c .leave .ensures)
+    let p = model (c .args .program .now) in
+    let ss = open-scopes (c .loop-store .scopes) in
+    let e : c .first .result ≡ first p (innermost ss .binder) = c .first .ensures ∙ ap (λ s. first p (s .binder)) (c .innermost .ensures) in
+    leaves-fewer p (c .args .label) (g .S·Store .meaning (c .args .store .now)) _ _ _ ss _ (c .unbind .ensures) (c .loop-store .inv .1) (omega arith) (c .leave .ensures)
 
 pub returns : need.returns
 returns g c =
-  let p = model (c .args .program .now) in
-  let ss = open-scopes (c .loop-store .scopes) in
-  let e : c .first .result ≡ first p (innermost ss .binder) = c .first .ensures ∙ ap (λ s. first p (s .binder)) (c .innermost .ensures) in
-  record {
-    done = refl;
-    scopes = sym (c .loop-store .inv .0 ∙ left-stays p (c .args .label) ss (omega arith));
-    store = c .loop-store .inv .1 }
+    let p = model (c .args .program .now) in
+    let ss = open-scopes (c .loop-store .scopes) in
+    let e : c .first .result ≡ first p (innermost ss .binder) = c .first .ensures ∙ ap (λ s. first p (s .binder)) (c .innermost .ensures) in
+    record {
+      done = refl;
+      scopes = sym (c .loop-store .inv .0 ∙ left-stays p (c .args .label) ss (omega arith));
+      store = c .loop-store .inv .1;
+    }

@@ -12,10 +12,10 @@ use Rattle.owners.proofs.search.visit_all.Given as given
 
 abbrev pub Inv-loop-label : given.InvT-loop-label
 Inv-loop-label g l =
-  (l .label ≤ last (model (l .program)))
-  × Standing (model (l .program)) (suc (l .label)) (g .S·Store .meaning (l .entry .store) .limit) (open-scopes (l .scopes)) (g .S·Store .meaning (l .store))
-  × Noted (owner (model (l .program))) (l .label) (l .owners)
-  × Noted (captured-byte (model (l .program))) (l .label) (l .captured)
+    (l .label ≤ last (model (l .program)))
+    × Standing (model (l .program)) (suc (l .label)) (g .S·Store .meaning (l .entry .store) .limit) (open-scopes (l .scopes)) (g .S·Store .meaning (l .store))
+    × Noted (owner (model (l .program))) (l .label) (l .owners)
+    × Noted (captured-byte (model (l .program))) (l .label) (l .captured)
 
 abbrev pub μ-loop-label : given.MeasureT-loop-label
 μ-loop-label g l = l .label

@@ -12,8 +12,8 @@ returns-in-rest c = (_, one-wrong _ _ _ _ _ _ (c .loop-i-test .taken) (c .loop-i
 
 pub loop-i-again : need.loop-i-again
 loop-i-again c =
-  let long : length (c .args .firsts .now) ≡ 256 = ap length (c .pre .1 .1) in
-  one-read _ _ _ _ _ _ (c .loop-i-test .taken) (c .loop-i .inv) _ _ (omega arith) (omega arith) (sym (c .in-Some .ensures tt))
+    let long : length (c .args .firsts .now) ≡ 256 = ap length (c .pre .1 .1) in
+    one-read _ _ _ _ _ _ (c .loop-i-test .taken) (c .loop-i .inv) _ _ (omega arith) (omega arith) (sym (c .in-Some .ensures tt))
 
 pub returns : need.returns
 returns c = all-read _ _ _ _ _ (c .loop-i-test .left) (c .loop-i .kept .i-end) (c .loop-i .inv)

@@ -4,5 +4,5 @@ use Rattle.stores.proofs.shallow.ShallowStore.limit.Needs as need
 
 pub returns : need.returns
 returns g c =
-  let s = c .args .self .now in
-  record { answer = refl; formed = formed (s .cells .things) (s .trail .now) (s .free) (s .top .things) (s .within) (s .sound) (s .top .sized) }
+    let s = c .args .self .now in
+    record { answer = refl; formed = formed (s .cells .things) (s .trail .now) (s .free) (s .top .things) (s .within) (s .sound) (s .top .sized) }

@@ -8,15 +8,15 @@ returns-then-self g c = let s = c .args .self .now in unbind-none (s .cells .thi
 
 pub set-requires : need.set-requires
 set-requires g c κs =
-  let s = c .args .self .now in
-  (search needs, unbind-low (s .cells .things) (s .trail .now) (s .free) (s .top .things) (s .within) (s .sound) (c .index-self-self .result) (omega arith))
+    let s = c .args .self .now in
+    (search needs, unbind-low (s .cells .things) (s .trail .now) (s .free) (s .top .things) (s .within) (s .sound) (c .index-self-self .result) (omega arith))
 
 pub ghost-self : need.ghost-self
 ghost-self g c =
-  let s = c .args .self .now in
-  (omega arith, (unbind-sound (s .cells .things) (s .trail .now) (s .free) (s .top .things) (s .within) (s .sound) (c .index-self-self .result) (omega arith) _ (c .set .ensures), tt))
+    let s = c .args .self .now in
+    (omega arith, (unbind-sound (s .cells .things) (s .trail .now) (s .free) (s .top .things) (s .within) (s .sound) (c .index-self-self .result) (omega arith) _ (c .set .ensures), tt))
 
 pub returns : need.returns
 returns g c =
-  let s = c .args .self .now in
-  unbind-one (s .cells .things) (s .trail .now) (s .free) (s .top .things) (s .within) (s .sound) (c .index-self-self .result) (omega arith) _ (c .set .ensures)
+    let s = c .args .self .now in
+    unbind-one (s .cells .things) (s .trail .now) (s .free) (s .top .things) (s .within) (s .sound) (c .index-self-self .result) (omega arith) _ (c .set .ensures)

@@ -6,5 +6,5 @@ use Rattle.terms.proofs.program.Program.last.Needs as need
 
 pub returns : need.returns
 returns c =
-  let p = c .args .self .now in
-  record { label = last-is (p .terms) (p .last) (p .symbols) (p .definitions) (p .count) (omega arith); formed = facts-of (model p) (p .formed) }
+    let p = c .args .self .now in
+    record { label = last-is (p .terms) (p .last) (p .symbols) (p .definitions) (p .count) (omega arith); formed = facts-of (model p) (p .formed) }
