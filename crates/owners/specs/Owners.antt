@@ -1,4 +1,4 @@
--- The owner of each occurrence, and whether it is captured; and what the search answers and leaves.
+-- The owner of each occurrence, and whether it is captured; and what the call that finds them answers and leaves.
 use mathlib.Core.Path.{_≡_}
 use mathlib.Core.List.{List, map}
 use mathlib.Core.Bool.{Bool, true, false, cond, not, _&&_, _||_}
@@ -60,10 +60,10 @@ owners-of p = map (owner p) (counting 0 256)
 unfoldable pub captures-of : Script → List ℕ
 captures-of p = map (captured-byte p) (counting 0 256)
 
--- the answer of the search, what the store then means, and the two outputs: refused if an output has not 256 places, then if
+-- the answer of that call, what the store then means, and the two outputs: refused if an output has not 256 places, then if
 -- the store takes fewer than 255 bindings, and then nothing changes; else the outputs are written and the store is cleared
-abbrev pub search-of : Script → Meaning ℕ → List ℕ → List ℕ → Result (Unit {0}) Fault × (Meaning ℕ × (List ℕ × List ℕ))
-search-of p m os cs =
+abbrev pub found-of : Script → Meaning ℕ → List ℕ → List ℕ → Result (Unit {0}) Fault × (Meaning ℕ × (List ℕ × List ℕ))
+found-of p m os cs =
     cond (eqb (length os) 256 && eqb (length cs) 256)
     (cond (ltb (m .limit) 255) (Err StoreLimit, (m, (os, cs))) (Ok tt, (clear-of m, (owners-of p, captures-of p))))
     (Err MemoryLength, (m, (os, cs)))

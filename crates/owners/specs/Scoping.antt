@@ -1,4 +1,4 @@
--- The scopes that stand open at a label, as the search keeps them.
+-- The scopes that stand open at a label, as the walk keeps them.
 use mathlib.Core.Path.{_≡_}
 use mathlib.Core.List.{List, [], _∷_, map}
 use mathlib.Core.Bool.{Bool, true, false, cond, not, _&&_}
@@ -50,7 +50,7 @@ opened p l (suc n) b =
 unfoldable pub scopes-at : Script → ℕ → List Scope
 scopes-at p l = opened p l 256 0
 
--- The search stands at label l, over a store with this limit: the open scopes are those at l, and the store holds a binding for each.
+-- The walk stands at label l, over a store with this limit: the open scopes are those at l, and the store holds a binding for each.
 pub record Standing (p : Script) (l limit : ℕ) (ss : List Scope) (m : Meaning ℕ) : Type 0 where
   pub open-at : ss ≡ scopes-at p l
   pub held : m ≡ record { bindings = map (binding-of p) ss; top = replicate 32 None; limit = limit }

@@ -1,5 +1,5 @@
 mod scope;
 mod scopes;
-mod search;
+mod walk;
 
-pub use search::find_owners;
+pub use walk::find_owners;

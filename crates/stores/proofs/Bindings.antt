@@ -9,7 +9,6 @@ use lib.ListN.{length, getD, take, drop, set, take-append-drop}
 use lib.Dec.{eqb}
 use Rattle.std.proofs.shelf.Lists.{drop-more, take-more, set-split}
 use Rattle.std.proofs.shelf.Tests.{eq-eqb, ne-eqb, cond-true, cond-false}
-use Rattle.std.specs.declared.option.Option.{Option}
 use Rattle.std.specs.declared.option.Option.the-variants.{Some, None}
 use Rattle.stores.specs.declared.binding.Binding.{Binding}
 use Rattle.stores.specs.Meaning.{newest, replaced}

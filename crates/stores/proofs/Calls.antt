@@ -1,20 +1,18 @@
 -- What a store shows to meet the equation of a call, however it keeps its bindings.
-use mathlib.Core.Path.{_≡_, refl, sym, ap, _∙_}
-use mathlib.Core.List.{List, [], _∷_}
-use mathlib.Core.Bool.{true, false, cond}
+use mathlib.Core.Path.{_≡_, sym, ap, _∙_}
+use mathlib.Core.List.{List, _∷_}
+use mathlib.Core.Bool.{cond}
 use Prim.Native.Nat.{ℕ, _<_, _≤_}
-use lib.ListN.{length, getD, set}
+use lib.ListN.{set}
 use lib.Dec.{ltb, eqb}
 use Rattle.std.proofs.shelf.Tests.{le-ltb, lt-ltb, eq-eqb, ne-eqb, cond-true, cond-false}
 use Rattle.std.specs.Options.{isSome}
 use Rattle.std.specs.declared.option.Option.{Option}
 use Rattle.std.specs.declared.option.Option.the-variants.{Some, None}
-use Rattle.std.specs.declared.result.Result.{Result}
 use Rattle.std.specs.declared.result.Result.the-variants.{Ok, Err}
-use Rattle.faults.specs.declared.fault.Fault.{Fault}
-use Rattle.faults.specs.declared.fault.Fault.the-variants.{NoSuchVariable, StoreFull, StoreEmpty}
+use Rattle.faults.specs.declared.fault.Fault.the-variants.{NoSuchVariable, StoreFull}
 use Rattle.stores.specs.declared.binding.Binding.{Binding}
-use Rattle.stores.specs.Meaning.{Meaning, count-of, bound, bind-of, unbind-of, newest, seen, look-of, replaced, put-of}
+use Rattle.stores.specs.Meaning.{Meaning, count-of, bound, bind-of, unbind-of, newest, seen, look-of, replaced, assigned, put-of}
 use Rattle.stores.proofs.Bindings.{replaced-none}
 
 module _ {T : Type 0} (m : Meaning T) where
@@ -56,7 +54,7 @@ module _ {T : Type 0} (bs bs′ : List (Binding T)) (top top′ : List (Option T
     pub put-bound : (p : T × ℕ) → newest x bs ≡ Some p → bs′ ≡ replaced x t bs → top′ ≡ top → (Ok tt, m′) ≡ put-of m x t
     put-bound p there list e =
         let keeps : cond (isSome (newest x bs)) top (set top x (Some t)) ≡ top = ap (λ o. cond (isSome o) top (set top x (Some t))) there in
-        let is : m′ ≡ record { bindings = replaced x t bs; top = cond (isSome (newest x bs)) top (set top x (Some t)); limit = n } = cc in
+        let is : m′ ≡ assigned m x t = cc in
         ap (λ v. (Ok tt, v)) is ∙ sym (cond-false (ltb 31 x) _ _ (le-ltb 31 x low))
 
     -- while none stands
@@ -64,5 +62,5 @@ module _ {T : Type 0} (bs bs′ : List (Binding T)) (top top′ : List (Option T
     put-top none list e =
         let same-list : replaced x t bs ≡ bs = replaced-none x t bs none in
         let takes : cond (isSome (newest x bs)) top (set top x (Some t)) ≡ set top x (Some t) = ap (λ o. cond (isSome o) top (set top x (Some t))) none in
-        let is : m′ ≡ record { bindings = replaced x t bs; top = cond (isSome (newest x bs)) top (set top x (Some t)); limit = n } = cc in
+        let is : m′ ≡ assigned m x t = cc in
         ap (λ v. (Ok tt, v)) is ∙ sym (cond-false (ltb 31 x) _ _ (le-ltb 31 x low))

@@ -1,9 +1,9 @@
 -- What a caller learns from the equation of a call; then the laws of `specs/Laws`.
-use mathlib.Core.Path.{_≡_, refl, sym, ap, subst, _∙_}
+use mathlib.Core.Path.{_≡_, refl, sym, ap, _∙_}
 use mathlib.Core.Logic.{⊎-elim}
 use mathlib.Core.List.{List, [], _∷_, _++_}
-use mathlib.Core.Bool.{Bool, true, false, cond}
-use Prim.Native.Nat.{ℕ, _<_, _≤_, suc}
+use mathlib.Core.Bool.{cond}
+use Prim.Native.Nat.{ℕ, _<_, _≤_}
 use native.Mathlib.Omega.{arith}
 use lib.ListN.{length, getD, set, length-set}
 use lib.Dec.{eqb, ltb}
@@ -18,8 +18,8 @@ use Rattle.std.specs.declared.result.Result.the-variants.{Ok, Err}
 use Rattle.faults.specs.declared.fault.Fault.{Fault}
 use Rattle.faults.specs.declared.fault.Fault.the-variants.{NoSuchVariable, StoreFull, StoreEmpty}
 use Rattle.stores.specs.declared.binding.Binding.{Binding}
-use Rattle.stores.specs.Meaning.{Meaning, Formed, count-of, new-store, clear-of, bound, bind-of, unbound, unbind-of, newest, outermost, or-else, seen, look-of, replaced, assigned, put-of}
-use Rattle.stores.specs.Laws.{Free, Newest, birthplace-in, Others-same, Look-newest, Bind-shows, Unbind-undoes, Put-replaces, Put-tops, Put-shows, Refused-same, Stays-formed, Lawful}
+use Rattle.stores.specs.Meaning.{Meaning, Formed, count-of, clear-of, bound, bind-of, unbound, unbind-of, newest, outermost, or-else, seen, look-of, replaced, assigned, put-of}
+use Rattle.stores.specs.Laws.{Free, Newest, birthplace-in, Look-newest, Bind-shows, Unbind-undoes, Put-replaces, Put-tops, Put-shows, Lawful}
 use Rattle.stores.proofs.Bindings.{with-thing, newest-here, newest-past, newest-skip, replaced-here, replaced-past, replaced-skip, replaced-none, length-replaced}
 
 -- ---- one equation, r the answer and m′ the meaning after
@@ -32,6 +32,12 @@ module _ {T : Type 0} (m m′ : Meaning T) (x : ℕ) (t : T) (b : ℕ) (r : Resu
 
   pub bind-accepts : x ≤ 31 → count-of m < m .limit → r ≡ Ok tt
   bind-accepts low room = grind (arith, tells)
+
+  -- an unbind right after it gives the meaning back
+  pub bind-unbind : (m″ : Meaning T) (r′ : Result (Unit {0}) Fault) → r ≡ Ok tt → (r′, m″) ≡ unbind-of m′ → (r′ ≡ Ok tt) × (m″ ≡ m)
+  bind-unbind m″ r′ ok off =
+      let e : (r′, m″) ≡ (Ok tt, m) = off ∙ ap (λ v. unbind-of v) (bind-done ok .0) in
+      (ap (λ p. p .0) e, ap (λ p. p .1) e)
 
   pub bind-full : x ≤ 31 → count-of m ≡ m .limit → r ≡ Err StoreFull
   bind-full low full = grind (arith, tells)

@@ -1,34 +1,39 @@
 ghost use mathlib.Core.Path.{_≡_};
-ghost use Prim.Native.Nat.{_≤_};
 ghost use lib.ListN.{length, getD, set, replicate};
-ghost use Rattle.std.specs.declared.option.Option.the-variants.{None};
+ghost use Rattle.std.specs.declared.option.Option.the-variants.{Some, None};
 
-// For each variable a thing or none.
+// For each of the variables 0 to 31 a thing or none; other variables have nothing and take nothing.
 #[derive(Drop)]
 pub struct Top<T: Copy> {
-    pub(crate) things: [Option<T>; 32],
+    things: [Option<T>; 32],
     ghost sized: { length things ≡ 32 },
 }
 
 impl<T: Copy> Top<T> {
-    pub(crate) fn empty() -> Self
+    pub fn empty() -> Self
         ensures { λ r. ⌜ r .things ≡ replicate 32 None ⌝ }
     {
         let things = [None; 32];
         Top { things }
     }
 
-    pub(crate) fn at(&self, variable: u8) -> Option<T>
-        requires { ⌜ variable ≤ 31 ⌝ }
+    pub fn at(&self, variable: u8) -> Option<T>
         ensures { λ r. ⌜ r ≡ getD (now (self .entry) .things) variable None ⌝ }
     {
-        self.things[variable as usize]
+        if variable < 32 { self.things[variable as usize] } else { None }
     }
 
-    pub(crate) fn set(&mut self, variable: u8, thing: Option<T>)
-        requires { ⌜ variable ≤ 31 ⌝ }
+    pub fn set(&mut self, variable: u8, thing: Option<T>)
         ensures { λ _. ⌜ now (self .exit) .things ≡ set (now (self .entry) .things) variable thing ⌝ }
     {
-        self.things[variable as usize] = thing;
+        if variable < 32 {
+            self.things[variable as usize] = thing;
+        }
+    }
+
+    pub fn give(&mut self, variable: u8, thing: T)
+        ensures { λ _. ⌜ now (self .exit) .things ≡ set (now (self .entry) .things) variable (Some thing) ⌝ }
+    {
+        self.set(variable, Some(thing));
     }
 }

@@ -14,7 +14,7 @@ pub enum Term {
     Variable(u8),
     Setq { variable: u8, value: u8 },
     Let { variable: u8, value: u8, body: u8 },
-    If { test: u8, then: u8, otherwise: u8 },
+    If { condition: u8, then: u8, otherwise: u8 },
     Apply { operator: u8, operand: u8 },
     Cons { first: u8, second: u8 },
     Car(u8),
@@ -82,7 +82,7 @@ impl Term {
                 body,
             }),
             (7, then, otherwise) => Some(Term::If {
-                test: a,
+                condition: a,
                 then,
                 otherwise,
             }),
@@ -112,10 +112,10 @@ impl Term {
             Term::Cons { first, second } => Children::Two(first, second),
             Term::Add { left, right } | Term::Same { left, right } => Children::Two(left, right),
             Term::If {
-                test,
+                condition,
                 then,
                 otherwise,
-            } => Children::Three(test, then, otherwise),
+            } => Children::Three(condition, then, otherwise),
         }
     }
 

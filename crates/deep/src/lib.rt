@@ -1,0 +1,4 @@
+mod deep;
+
+pub use deep::Deep;
+pub use deep::DeepStore;

@@ -1,0 +1,2 @@
+pub mod Unwinds
+pub mod Trails

@@ -1,0 +1,10 @@
+use mathlib.Core.Path.{refl}
+use native.Mathlib.Omega.{arith}
+use Rattle.shallow.proofs.Trails.{sound-none, unwound-none}
+use Rattle.shallow.proofs.shallow.ShallowStore.clear.Needs as need
+
+pub ghost-self : need.ghost-self
+ghost-self g c = (omega arith, (sound-none _ (c .args .self .now .trail .now) _ refl (c .empty-self .ensures), tt))
+
+pub returns : need.returns
+returns g c = unwound-none _ (c .args .self .now .trail .now) _ _ refl (c .empty-self-2 .ensures)

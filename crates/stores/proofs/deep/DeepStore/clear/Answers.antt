@@ -1,5 +1,0 @@
-use Rattle.stores.proofs.Places.{held-none}
-use Rattle.stores.proofs.deep.DeepStore.clear.Needs as need
-
-pub returns : need.returns
-returns g c = held-none (c .args .self .now .records .now) _ (c .empty-self .ensures)

@@ -1,8 +1,0 @@
-use mathlib.Core.Path.{refl}
-use Rattle.stores.proofs.Trails.{formed}
-use Rattle.stores.proofs.shallow.ShallowStore.limit.Needs as need
-
-pub returns : need.returns
-returns g c =
-    let s = c .args .self .now in
-    record { answer = refl; formed = formed (s .cells .things) (s .trail .now) (s .free) (s .top .things) (s .within) (s .sound) (s .top .sized) }

@@ -1,0 +1,7 @@
+use mathlib.Core.Path.{sym}
+use native.Mathlib.Omega.{arith}
+use Rattle.std.proofs.shelf.Lists.{getD-past}
+use Rattle.stores.proofs.top.Top.at.Needs as need
+
+pub returns-else-variable-lt32 : need.returns-else-variable-lt32
+returns-else-variable-lt32 g c = sym (getD-past (c .args .self .now .things) (c .args .variable) _ (omega arith))
