@@ -3,10 +3,10 @@ ghost use Prim.Native.Nat.{_≤_};
 ghost use lib.ListN.{length};
 ghost use Rattle.stores.specs.Meaning.{new-store};
 ghost use Rattle.deep.specs.Records.{held, Place, Behind};
+use faults::Fault;
 use stores::Binding;
 use stores::Store;
 use stores::Top;
-use faults::Fault;
 
 // A store that goes through one list. The first `free` records are unused; the bindings stand behind them, newest first.
 #[derive(Drop)]

@@ -5,9 +5,9 @@ ghost use lib.ListN.{length, drop};
 ghost use Rattle.stores.specs.Meaning.{new-store};
 ghost use Rattle.shallow.specs.Trail.{unwound, sound};
 use crate::saved::Saved;
+use faults::Fault;
 use stores::Store;
 use stores::Top;
-use faults::Fault;
 
 // A store that keeps each variable's current binding in a cell. The first `free` records of the trail are unused; behind them stands
 // what each binding covered, newest first.

@@ -20,7 +20,11 @@ impl<T: Copy> Top<T> {
     pub fn at(&self, variable: u8) -> Option<T>
         ensures { λ r. ⌜ r ≡ getD (now (self .entry) .things) variable None ⌝ }
     {
-        if variable < 32 { self.things[variable as usize] } else { None }
+        if variable < 32 {
+            self.things[variable as usize]
+        } else {
+            None
+        }
     }
 
     pub fn set(&mut self, variable: u8, thing: Option<T>)

@@ -10,17 +10,43 @@ use crate::raw::RawTerm;
 pub enum Term {
     Number(u32),
     Quote(u8),
-    Lambda { variable: u8, body: u8 },
+    Lambda {
+        variable: u8,
+        body: u8,
+    },
     Variable(u8),
-    Setq { variable: u8, value: u8 },
-    Let { variable: u8, value: u8, body: u8 },
-    If { condition: u8, then: u8, otherwise: u8 },
-    Apply { operator: u8, operand: u8 },
-    Cons { first: u8, second: u8 },
+    Setq {
+        variable: u8,
+        value: u8,
+    },
+    Let {
+        variable: u8,
+        value: u8,
+        body: u8,
+    },
+    If {
+        condition: u8,
+        then: u8,
+        otherwise: u8,
+    },
+    Apply {
+        operator: u8,
+        operand: u8,
+    },
+    Cons {
+        first: u8,
+        second: u8,
+    },
     Car(u8),
     Cdr(u8),
-    Add { left: u8, right: u8 },
-    Same { left: u8, right: u8 },
+    Add {
+        left: u8,
+        right: u8,
+    },
+    Same {
+        left: u8,
+        right: u8,
+    },
 }
 
 // The labels of a term's children, in order.
