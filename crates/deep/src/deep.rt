@@ -22,7 +22,7 @@ impl<'a, T: Copy> Deep<'a, T> {
         ensures { λ r. ⌜ held (r .records .now) (r .free) (r .top .things) ≡ new-store T (length (now (records .entry))) ⌝ }
     {
         let free = records.len();
-        let top = Top::empty();
+        let top = Top::filled(None);
         Deep { records, free, top }
     }
 
@@ -55,7 +55,7 @@ pub impl<'a, T: Copy> Store for Deep<'a, T> as DeepStore {
     ghost meaning = { λ s. held (s .records .now) (s .free) (s .top .things) };
 
     fn clear(&mut self) {
-        self.top = Top::empty();
+        self.top = Top::filled(None);
         self.free = self.records.len();
     }
 

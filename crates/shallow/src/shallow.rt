@@ -34,8 +34,8 @@ impl<'a, T: Copy> Shallow<'a, T> {
         requires { ⌜ free ≡ length (now trail) ⌝ }
         ensures { λ r. ⌜ unwound (r .cells .things) (r .trail .now) (r .free) (r .top .things) ≡ new-store T (length (now (trail .entry))) ⌝ }
     {
-        let cells = Top::empty();
-        let top = Top::empty();
+        let cells = Top::filled(None);
+        let top = Top::filled(None);
         Shallow {
             trail,
             free,
@@ -53,8 +53,8 @@ pub impl<'a, T: Copy> Store for Shallow<'a, T> as ShallowStore {
     fn clear(&mut self) {
         let all = self.trail.len();
         self.free = all;
-        self.cells = Top::empty();
-        self.top = Top::empty();
+        self.cells = Top::filled(None);
+        self.top = Top::filled(None);
     }
 
     fn count(&self) -> usize {

@@ -10,21 +10,21 @@ pub struct Top<T: Copy> {
 }
 
 impl<T: Copy> Top<T> {
-    pub fn empty() -> Self
-        ensures { λ r. ⌜ r .things ≡ replicate 32 None ⌝ }
+    // The same for every variable.
+    pub fn filled(thing: Option<T>) -> Self
+        ensures { λ r. ⌜ r .things ≡ replicate 32 thing ⌝ }
     {
-        let things = [None; 32];
+        let things = [thing; 32];
         Top { things }
     }
 
     pub fn at(&self, variable: u8) -> Option<T>
         ensures { λ r. ⌜ r ≡ getD (now (self .entry) .things) variable None ⌝ }
     {
-        if variable < 32 {
-            self.things[variable as usize]
-        } else {
-            None
+        if variable > 31 {
+            return None;
         }
+        self.things[variable as usize]
     }
 
     pub fn set(&mut self, variable: u8, thing: Option<T>)

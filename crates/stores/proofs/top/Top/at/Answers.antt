@@ -3,5 +3,5 @@ use native.Mathlib.Omega.{arith}
 use Rattle.std.proofs.shelf.Lists.{getD-past}
 use Rattle.stores.proofs.top.Top.at.Needs as need
 
-pub returns-else-variable-lt32 : need.returns-else-variable-lt32
-returns-else-variable-lt32 g c = sym (getD-past (c .args .self .now .things) (c .args .variable) _ (omega arith))
+pub returns-then-variable-gt31 : need.returns-then-variable-gt31
+returns-then-variable-gt31 g c = sym (getD-past (c .args .self .now .things) (c .args .variable) _ (omega arith))
