@@ -1,10 +1,13 @@
 ghost use mathlib.Core.Path.{_≡_};
 ghost use mathlib.Core.List.{[], _∷_, _++_};
 ghost use Rattle.std.specs.Of.Vec.{vec-items, vec-len};
-ghost use Rattle.std.specs.Options.{isSome};
-ghost use Rattle.std.specs.Results.{isOk};
+ghost use Rattle.std.specs.Options.{isSome, mapped};
+ghost use Rattle.std.specs.Results.{Cases, isOk, okPart};
 ghost use Rattle.std.specs.Vec.{made};
 ghost use Rattle.std.specs.declared.option.Option.the-variants.{None};
+ghost use Rattle.std.specs.declared.result.Result.the-variants.{Err};
+ghost use Rattle.terms.specs.Form.{program-of};
+ghost use Rattle.terms.specs.Model.{model};
 use crate::command::Inquiry;
 use crate::finding::Findings;
 use crate::finding::find;
@@ -72,6 +75,7 @@ impl Case {
     // makes the program of what was said; a refusal leaves none
     pub(crate) fn program(&mut self) -> Result<Sizes, Fault>
         ensures makes { λ r. ⌜ isSome (now (self .exit) .program) ≡ isOk r ⌝ }
+        ensures which { λ r. ⌜ Cases r (λ _. mapped model (now (self .exit) .program) ≡ okPart (program-of (vec-items (now (self .entry) .terms)) (now (self .entry) .symbols) (vec-items (now (self .entry) .definitions)))) (λ e. Err e ≡ program-of (vec-items (now (self .entry) .terms)) (now (self .entry) .symbols) (vec-items (now (self .entry) .definitions))) ⌝ }
         ensures sizes { λ r. ⌜ made r (λ s. (s .terms ≡ vec-len (now (self .entry) .terms)) × (s .symbols ≡ now (self .entry) .symbols) × (s .definitions ≡ vec-len (now (self .entry) .definitions))) ⌝ }
         ensures kept { λ _. ⌜ (now (self .exit) .symbols ≡ now (self .entry) .symbols) × (now (self .exit) .terms ≡ now (self .entry) .terms) × (now (self .exit) .definitions ≡ now (self .entry) .definitions) ⌝ }
     {
