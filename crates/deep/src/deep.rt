@@ -6,14 +6,14 @@ ghost use Rattle.deep.specs.Records.{held, Place, Behind};
 use faults::Fault;
 use stores::Binding;
 use stores::Store;
-use stores::Top;
+use stores::Cells;
 
 // A store that goes through one list. The first `free` records are unused; the bindings stand behind them, newest first.
 #[derive(Drop)]
 pub struct Deep<'a, T: Copy> {
     records: &'a mut [Binding<T>],
     free: usize,
-    top: Top<T>,
+    top: Cells<T>,
     ghost within: { free ≤ length (records .now) },
 }
 
@@ -22,7 +22,7 @@ impl<'a, T: Copy> Deep<'a, T> {
         ensures { λ r. ⌜ held (r .records .now) (r .free) (r .top .things) ≡ new-store T (length (now (records .entry))) ⌝ }
     {
         let free = records.len();
-        let top = Top::filled(None);
+        let top = Cells::filled(None);
         Deep { records, free, top }
     }
 
@@ -55,7 +55,7 @@ pub impl<'a, T: Copy> Store for Deep<'a, T> as DeepStore {
     ghost meaning = { λ s. held (s .records .now) (s .free) (s .top .things) };
 
     fn clear(&mut self) {
-        self.top = Top::filled(None);
+        self.top = Cells::filled(None);
         self.free = self.records.len();
     }
 

@@ -12,7 +12,7 @@ use Rattle.std.specs.declared.option.Option.the-variants.{Some, None}
 use Rattle.terms.specs.Script.{Script, last, term, first, spans, binds, is-body, occurs}
 use Rattle.terms.specs.WellFormed.{WellFormed}
 use Rattle.terms.proofs.Nesting.{unlike, spans-in, spans-out, nested, binder-label, body-binds}
-use Rattle.owners.specs.Owners.{least, some-of, is-variable, binds-over, owner-of, owner, between, captured}
+use Rattle.owners.specs.Owners.{least, some-of, binds-variable, binds-over, owner-of, owner, between, captured}
 use Rattle.owners.specs.Laws.{Innermost, Unbound, Captured, Owned}
 use Rattle.owners.proofs.Opened.{fails}
 use Rattle.owners.proofs.Noting.{no-owner}
@@ -52,12 +52,12 @@ some-in (suc n) b f g low high h = elim (cases-eq g b) [
   | inr ne ↦ or-right (f b) _ (some-in n (suc b) f g (omega arith) (omega arith) h)
 ]
 
-is-bound : (o : Option ℕ) (x : ℕ) → is-variable o x ≡ true → o ≡ Some x
+is-bound : (o : Option ℕ) (x : ℕ) → binds-variable o x ≡ true → o ≡ Some x
 is-bound None x h = absurd (unlike h)
 is-bound (Some y) x h = ap Some (eqb-true y x h)
 
-bound-is : (o : Option ℕ) (x : ℕ) → o ≡ Some x → is-variable o x ≡ true
-bound-is o x e = ap (λ u. is-variable u x) e ∙ eq-eqb x x refl
+bound-is : (o : Option ℕ) (x : ℕ) → o ≡ Some x → binds-variable o x ≡ true
+bound-is o x e = ap (λ u. binds-variable u x) e ∙ eq-eqb x x refl
 
 module _ (p : Script) (w : WellFormed p) (l : ℕ) where
   small : (c x : ℕ) → binds p c ≡ Some x → (1 ≤ c) × (c < 255) × (c ≤ last p)
@@ -72,7 +72,7 @@ module _ (p : Script) (w : WellFormed p) (l : ℕ) where
   )
   owned-by x (inr q) =
       let o = least 256 0 (binds-over p x l) in
-      let parts = and-parts (is-variable (binds p o) x) (spans p o l) (q .passes) in
+      let parts = and-parts (binds-variable (binds p o) x) (spans p o l) (q .passes) in
       let bound = is-bound (binds p o) x (parts .0) in
       let span = spans-out p o l (parts .1) in
       inr (record {

@@ -15,7 +15,7 @@ use Rattle.terms.specs.WellFormed.{WellFormed}
 use Rattle.terms.proofs.Nesting.{unlike, spans-in, spans-out, nested, binder-label, body-binds}
 use Rattle.stores.specs.Meaning.{newest}
 use Rattle.owners.specs.declared.scope.Scope.{Scope}
-use Rattle.owners.specs.Owners.{least, some-of, is-variable, binds-over, owner-of, owner, between, captured}
+use Rattle.owners.specs.Owners.{least, some-of, binds-variable, binds-over, owner-of, owner, between, captured}
 use Rattle.owners.specs.Scoping.{scope, innermost, binding-of, opened, scopes-at, told, noticed}
 use Rattle.owners.proofs.Opened.{same-test, fails, stands, within, opened-in, opened-out, stands-out, stands-in}
 
@@ -29,7 +29,7 @@ module _ (p : Script) (x l : ℕ) where
   test-open : (b : ℕ) → stands p l b ≡ true → binds-over p x l b ≡ eqb (valueOr (binds p b) 0) x
   test-open b h = at (binds p b) (and-parts _ _ h .0) (and-parts (isSome (binds p b)) _ h .1)
     where
-      at : (o : Option ℕ) → isSome o ≡ true → spans p b l ≡ true → (is-variable o x && spans p b l) ≡ eqb (valueOr o 0) x
+      at : (o : Option ℕ) → isSome o ≡ true → spans p b l ≡ true → (binds-variable o x && spans p b l) ≡ eqb (valueOr o 0) x
       at None e s = absurd (unlike e)
       at (Some y) e s = ap (λ t. eqb y x && t) s ∙ keep (eqb y x)
         where
@@ -41,7 +41,7 @@ module _ (p : Script) (x l : ℕ) where
   test-shut : (b : ℕ) → stands p l b ≡ false → binds-over p x l b ≡ false
   test-shut b h = at (binds p b) h
     where
-      at : (o : Option ℕ) → (isSome o && spans p b l) ≡ false → (is-variable o x && spans p b l) ≡ false
+      at : (o : Option ℕ) → (isSome o && spans p b l) ≡ false → (binds-variable o x && spans p b l) ≡ false
       at None e = refl
       at (Some y) e = and-right (eqb y x) (spans p b l) e
 

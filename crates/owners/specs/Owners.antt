@@ -25,13 +25,13 @@ some-of zero b f = false
 some-of (suc n) b f = f b || some-of n (suc b) f
 
 -- a binder of x: what it binds is x
-abbrev pub is-variable : Option ℕ → ℕ → Bool
-is-variable None x = false
-is-variable (Some y) x = eqb y x
+abbrev pub binds-variable : Option ℕ → ℕ → Bool
+binds-variable None x = false
+binds-variable (Some y) x = eqb y x
 
 -- b is a binder of x whose span holds l
 abbrev pub binds-over : Script → ℕ → ℕ → ℕ → Bool
-binds-over p x l b = is-variable (binds p b) x && spans p b l
+binds-over p x l b = binds-variable (binds p b) x && spans p b l
 
 -- the innermost binder of x whose span holds l, or 0: spans that hold l lie one inside the other, so it is the least
 abbrev pub owner-of : Script → ℕ → Option ℕ → ℕ

@@ -7,7 +7,7 @@ ghost use Rattle.shallow.specs.Trail.{unwound, sound};
 use crate::saved::Saved;
 use faults::Fault;
 use stores::Store;
-use stores::Top;
+use stores::Cells;
 
 // A store that keeps each variable's current binding in a cell. The first `free` records of the trail are unused; behind them stands
 // what each binding covered, newest first.
@@ -15,8 +15,8 @@ use stores::Top;
 pub struct Shallow<'a, T: Copy> {
     trail: &'a mut [Saved<T>],
     free: usize,
-    cells: Top<(T, u8)>,
-    top: Top<T>,
+    cells: Cells<(T, u8)>,
+    top: Cells<T>,
     ghost within: { free ≤ length (trail .now) },
     ghost sound: { sound (cells .things) (drop free (trail .now)) ≡ true },
 }
@@ -34,8 +34,8 @@ impl<'a, T: Copy> Shallow<'a, T> {
         requires { ⌜ free ≡ length (now trail) ⌝ }
         ensures { λ r. ⌜ unwound (r .cells .things) (r .trail .now) (r .free) (r .top .things) ≡ new-store T (length (now (trail .entry))) ⌝ }
     {
-        let cells = Top::filled(None);
-        let top = Top::filled(None);
+        let cells = Cells::filled(None);
+        let top = Cells::filled(None);
         Shallow {
             trail,
             free,
@@ -53,8 +53,8 @@ pub impl<'a, T: Copy> Store for Shallow<'a, T> as ShallowStore {
     fn clear(&mut self) {
         let all = self.trail.len();
         self.free = all;
-        self.cells = Top::filled(None);
-        self.top = Top::filled(None);
+        self.cells = Cells::filled(None);
+        self.top = Cells::filled(None);
     }
 
     fn count(&self) -> usize {

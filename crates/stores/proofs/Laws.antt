@@ -22,6 +22,10 @@ use Rattle.stores.specs.Meaning.{Meaning, Formed, count-of, clear-of, bound, b
 use Rattle.stores.specs.Laws.{Free, Newest, birthplace-in, Look-newest, Bind-shows, Unbind-undoes, Put-replaces, Put-tops, Put-shows, Lawful}
 use Rattle.stores.proofs.Bindings.{with-thing, newest-here, newest-past, newest-skip, replaced-here, replaced-past, replaced-skip, replaced-none, length-replaced}
 
+-- no answer is both
+pub one-answer : (r : Result (Unit {0}) Fault) (e : Fault) → r ≡ Ok tt → r ≡ Err e → ⊥
+one-answer r e ok err = let z : _≡_ {A = ℕ} 0 1 = cc in omega arith
+
 -- ---- one equation, r the answer and m′ the meaning after
 module _ {T : Type 0} (m m′ : Meaning T) (x : ℕ) (t : T) (b : ℕ) (r : Result (Unit {0}) Fault) (is : (r, m′) ≡ bind-of m x t b) where
   pub bind-done : r ≡ Ok tt → (m′ ≡ bound m x t b) × (x ≤ 31) × (count-of m ≡ m .limit → ⊥)

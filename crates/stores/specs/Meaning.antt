@@ -97,3 +97,11 @@ assigned m x t =
 -- Put replaces the thing that look finds; where it finds none, the top level gets it.
 abbrev pub put-of : {T : Type 0} → Meaning T → ℕ → T → Result (Unit {0}) Fault × Meaning T
 put-of m x t = cond (ltb 31 x) (Err NoSuchVariable, m) (Ok tt, assigned m x t)
+
+abbrev pub shown-by : {T : Type 0} → Result (Unit {0}) Fault → T → ℕ → Result (Option (T × ℕ)) Fault
+shown-by (Ok u) t b = Ok (Some (t, b))
+shown-by (Err e) t b = Err e
+
+-- what a variable shows while it is bound to t with birthplace b: that, or the refusal of the bind
+abbrev pub shadow-of : {T : Type 0} → Meaning T → ℕ → T → ℕ → Result (Option (T × ℕ)) Fault
+shadow-of m x t b = shown-by (bind-of m x t b .0) t b

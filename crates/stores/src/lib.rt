@@ -1,11 +1,11 @@
 mod binding;
+mod cells;
 mod lent;
 mod shadow;
 mod store;
-mod top;
 
 pub use binding::Binding;
+pub use cells::Cells;
 pub use lent::LentStore;
 pub use shadow::shadowed;
 pub use store::Store;
-pub use top::Top;

@@ -1,9 +1,6 @@
 ghost use mathlib.Core.Path.{_≡_};
-ghost use Rattle.std.specs.Results.{Cases};
-ghost use Rattle.std.specs.declared.option.Option.the-variants.{Some};
-ghost use Rattle.std.specs.declared.result.Result.the-variants.{Err};
 ghost use Rattle.stores.specs.Laws.{Lawful};
-ghost use Rattle.stores.specs.Meaning.{bind-of};
+ghost use Rattle.stores.specs.Meaning.{shadow-of};
 use crate::store::Store;
 use faults::Fault;
 
@@ -16,12 +13,10 @@ pub fn shadowed<S: Store>(
 ) -> Result<Option<(S::Thing, u8)>, Fault>
     ensures laws { λ _. ⌜ Lawful S·Thing ⌝ }
     ensures same { λ _. ⌜ meaning (now (store .exit)) ≡ meaning (now (store .entry)) ⌝ }
-    ensures shows { λ r. ⌜ Cases r (λ o. o ≡ Some (thing, birthplace)) (λ e. Err e ≡ bind-of (meaning (now (store .entry))) variable thing birthplace .0) ⌝ }
+    ensures shows { λ r. ⌜ r ≡ shadow-of (meaning (now (store .entry))) variable thing birthplace ⌝ }
 {
-    if let Err(fault) = store.bind(variable, thing, birthplace) {
-        return Err(fault);
-    }
+    store.bind(variable, thing, birthplace)?;
     let shown = (*store).look(variable);
-    let _ = store.unbind();
+    store.unbind()?;
     shown
 }

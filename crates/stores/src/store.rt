@@ -3,7 +3,7 @@ ghost use Rattle.stores.specs.Meaning.{Meaning, Formed, clear-of, count-of, bi
 use faults::Fault;
 
 // A store of bindings. Each call is one equation over its answer and what the store means after it.
-// A question also tells that the meaning is well formed; the calls that change it keep it so (proofs/Laws).
+// A question also tells that the meaning is well formed; the calls that change it keep it so (`Stays-formed` of specs/Laws).
 pub trait Store {
     type Thing: Copy;
 

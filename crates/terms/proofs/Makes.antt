@@ -23,7 +23,7 @@ use Rattle.terms.specs.declared.term.Definition.{Definition}
 use Rattle.terms.specs.Syntax.{decode}
 use Rattle.terms.specs.Script.{Script, script-in, first-at}
 use Rattle.terms.specs.Form.{sizes-right, term-right, terms-right, script-right, definitions-right, roots, covers, well-formed, term-of, definition-of, script-of, wrong-from, all-decode, judged, program-of}
-use Rattle.terms.specs.Reading.{TermsRead, FirstWrong, DefinitionsRead}
+use Rattle.terms.specs.Reading.{TermsRead, Names-wrong, DefinitionsRead}
 
 wrong-none : (v : ℕ) (ts : List Term) (l : ℕ) (rs : List RawTerm) → wrong-from v ts l rs ≡ None → (m : ℕ) → l ≤ m → m < l + length rs → term-right v ts m ≡ true
 wrong-none v ts l [] h m low high = absurd (omega arith)
@@ -63,7 +63,7 @@ module _ (rows : List RawTerm) (v : ℕ) (ds : List RawDefinition) where
   wrong-sizes h = sym (cond-false _ _ _ h)
 
   module _ (sized : sizes-right (length rows) v (length ds) ≡ true) where
-    pub wrong-term : (e : Fault) → FirstWrong rows v e → Err e ≡ program-of rows v ds
+    pub wrong-term : (e : Fault) → Names-wrong rows v e → Err e ≡ program-of rows v ds
     unfolding program-of
     wrong-term e w =
         ap Err (w .2) ∙ sym (cond-true _ _ _ sized ∙ ap (λ o. judged o (all-decode ds && script-right (first-at (map term-of rows)) v 1 (map definition-of ds) (length rows)) (script-of rows v ds)) (w .1))

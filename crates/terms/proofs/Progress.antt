@@ -18,7 +18,7 @@ use Rattle.terms.specs.declared.term.Term.the-variants.{Quote}
 use Rattle.terms.specs.Syntax.{decode}
 use Rattle.terms.specs.Script.{term-at, first-at}
 use Rattle.terms.specs.Form.{term-right, term-of, wrong-from}
-use Rattle.terms.specs.Reading.{read-term, TermsRead, FirstWrong}
+use Rattle.terms.specs.Reading.{read-term, TermsRead, Names-wrong}
 use Rattle.terms.proofs.Firsts.{first-zero, first-past}
 use Rattle.terms.proofs.Rows.{read-is}
 

@@ -61,8 +61,8 @@ pub record TermsRead (rows : List RawTerm) (v : ℕ) (terms : List Term) (firsts
   pub begun : (l : ℕ) → getD firsts l 0 ≡ first-at (map term-of rows) l
 
 -- e names the first wrong label
-abbrev pub FirstWrong : List RawTerm → ℕ → Fault → Type 0
-FirstWrong rows v e = (l : ℕ) × (wrong-from v (map term-of rows) 1 rows ≡ Some l) × (e ≡ WrongTerm l)
+abbrev pub Names-wrong : List RawTerm → ℕ → Fault → Type 0
+Names-wrong rows v e = (l : ℕ) × (wrong-from v (map term-of rows) 1 rows ≡ Some l) × (e ≡ WrongTerm l)
 
 -- ok tells whether the definitions keep the rules, and then they are read
 pub record DefinitionsRead (rows : List RawDefinition) (f : ℕ → ℕ) (v last : ℕ) (ok : Bool) (definitions : List Definition) : Type 0 where

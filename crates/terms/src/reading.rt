@@ -9,7 +9,7 @@ ghost use Rattle.faults.specs.declared.fault.Fault.the-variants.{WrongTerm};
 ghost use Rattle.terms.specs.Syntax.{listed};
 ghost use Rattle.terms.specs.Script.{first-at};
 ghost use Rattle.terms.specs.Form.{term-of, definition-of, definition-right, wrong-from, all-decode, script-right};
-ghost use Rattle.terms.specs.Reading.{ends-below, opening, read-term, read-definition, TermsRead, FirstWrong, DefinitionsRead};
+ghost use Rattle.terms.specs.Reading.{ends-below, opening, read-term, read-definition, TermsRead, Names-wrong, DefinitionsRead};
 use crate::raw::RawDefinition;
 use crate::raw::RawTerm;
 use crate::term::Children;
@@ -74,7 +74,7 @@ pub(crate) fn read_terms(
     requires { ⌜ length (now rows) ≤ 255 ⌝ ∗ ⌜ length (now terms) ≡ 255 ⌝ ∗ ⌜ now firsts ≡ replicate 256 0 ⌝ }
     ensures { λ r. ⌜ Cases r
         (λ _. TermsRead (now (rows .entry)) symbols (now (terms .exit)) (now (firsts .exit)))
-        (λ e. FirstWrong (now (rows .entry)) symbols e) ⌝ }
+        (λ e. Names-wrong (now (rows .entry)) symbols e) ⌝ }
 {
     for (i, row) in rows.iter().enumerate() {
         let label = (i + 1) as u8;

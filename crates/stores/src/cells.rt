@@ -4,18 +4,18 @@ ghost use Rattle.std.specs.declared.option.Option.the-variants.{Some, None};
 
 // For each of the variables 0 to 31 a thing or none; other variables have nothing and take nothing.
 #[derive(Drop)]
-pub struct Top<T: Copy> {
+pub struct Cells<T: Copy> {
     things: [Option<T>; 32],
     ghost sized: { length things ≡ 32 },
 }
 
-impl<T: Copy> Top<T> {
+impl<T: Copy> Cells<T> {
     // The same for every variable.
     pub fn filled(thing: Option<T>) -> Self
         ensures { λ r. ⌜ r .things ≡ replicate 32 thing ⌝ }
     {
         let things = [thing; 32];
-        Top { things }
+        Cells { things }
     }
 
     pub fn at(&self, variable: u8) -> Option<T>
