@@ -5,8 +5,8 @@ ghost use Rattle.stores.specs.Meaning.{new-store};
 ghost use Rattle.deep.specs.Records.{held, Place, Behind};
 use faults::Fault;
 use stores::Binding;
-use stores::Store;
 use stores::Cells;
+use stores::Store;
 
 // A store that goes through one list. The first `free` records are unused; the bindings stand behind them, newest first.
 #[derive(Drop)]

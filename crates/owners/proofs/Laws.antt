@@ -1,6 +1,6 @@
 -- The owner is the innermost binder; captured says that a function body lies between.
 use mathlib.Core.Path.{_≡_, refl, sym, ap, subst, _∙_}
-use mathlib.Core.Bool.{Bool, true, false, cond, not, _&&_, _||_}
+use mathlib.Core.Bool.{Bool, true, false, not}
 use mathlib.Core.Logic.{_⊎_, inl, inr}
 use Prim.Native.Nat.{ℕ, zero, suc, _+_, _≤_, _<_}
 use native.Mathlib.Omega.{arith}
@@ -11,9 +11,9 @@ use Rattle.std.specs.declared.option.Option.{Option}
 use Rattle.std.specs.declared.option.Option.the-variants.{Some, None}
 use Rattle.terms.specs.Script.{Script, last, term, first, spans, binds, is-body, occurs}
 use Rattle.terms.specs.WellFormed.{WellFormed}
-use Rattle.terms.proofs.Nesting.{unlike, spans-in, spans-out, nested, binder-label, body-binds}
+use Rattle.terms.proofs.Nesting.{unlike, spans-out, nested, binder-label, body-binds}
 use Rattle.owners.specs.Owners.{least, some-of, binds-variable, binds-over, owner-of, owner, between, captured}
-use Rattle.owners.specs.Laws.{Innermost, Unbound, Captured, Owned}
+use Rattle.owners.specs.Laws.{Innermost, Unbound, Owned}
 use Rattle.owners.proofs.Opened.{fails}
 use Rattle.owners.proofs.Noting.{no-owner}
 

@@ -7,7 +7,7 @@ use Prim.Native.Nat.{ℕ, zero, suc, _+_, _-_, _≤_, _<_}
 use native.Mathlib.Omega.{arith}
 use lib.ListN.{length}
 use lib.Dec.{ltb}
-use Rattle.std.proofs.shelf.Tests.{cases-bool, cases-eq, cases-lt, cond-true, cond-false, and-parts, and-from, and-left, lt-ltb, le-ltb}
+use Rattle.std.proofs.shelf.Tests.{cases-bool, cases-eq, cases-lt, cond-true, cond-false, and-parts, and-from, lt-ltb, le-ltb}
 use Rattle.std.specs.Options.{isSome}
 use Rattle.terms.specs.Script.{Script, last, first, spans, binds, is-body}
 use Rattle.terms.specs.WellFormed.{WellFormed}

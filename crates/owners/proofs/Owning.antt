@@ -1,23 +1,22 @@
 -- The owner of an occurrence and whether it is captured, from the scopes that are open there.
 use mathlib.Core.Path.{_≡_, refl, sym, ap, subst, _∙_}
-use mathlib.Core.List.{List, [], _∷_, map}
+use mathlib.Core.List.{map}
 use mathlib.Core.Bool.{Bool, true, false, cond, not, _&&_, _||_}
 use mathlib.Core.Logic.{_⊎_, inl, inr}
-use Prim.Native.Nat.{ℕ, zero, suc, _+_, _≤_, _<_}
+use Prim.Native.Nat.{ℕ, zero, suc, _≤_}
 use native.Mathlib.Omega.{arith}
 use lib.Dec.{eqb}
-use Rattle.std.proofs.shelf.Tests.{cases-bool, cases-eq, cases-lt, cond-true, cond-false, and-parts, and-from, and-left, and-right, or-left, or-right, or-cases, or-from, eqb-true, eq-eqb, ne-eqb, eqb-false, not-true, not-from-false}
+use Rattle.std.proofs.shelf.Tests.{cases-bool, cond-false, and-parts, and-from, and-right, or-left, or-from, eq-eqb, ne-eqb, eqb-false, not-true, not-from-false}
 use Rattle.std.specs.Options.{isSome, valueOr}
 use Rattle.std.specs.declared.option.Option.{Option}
 use Rattle.std.specs.declared.option.Option.the-variants.{Some, None}
-use Rattle.terms.specs.Script.{Script, last, term, first, spans, binds, is-body, occurs}
+use Rattle.terms.specs.Script.{Script, term, spans, binds, is-body, occurs}
 use Rattle.terms.specs.WellFormed.{WellFormed}
-use Rattle.terms.proofs.Nesting.{unlike, spans-in, spans-out, nested, binder-label, body-binds}
+use Rattle.terms.proofs.Nesting.{unlike, spans-in, spans-out, binder-label, body-binds}
 use Rattle.stores.specs.Meaning.{newest}
-use Rattle.owners.specs.declared.scope.Scope.{Scope}
 use Rattle.owners.specs.Owners.{least, some-of, binds-variable, binds-over, owner-of, owner, between, captured}
-use Rattle.owners.specs.Scoping.{scope, innermost, binding-of, opened, scopes-at, told, noticed}
-use Rattle.owners.proofs.Opened.{same-test, fails, stands, within, opened-in, opened-out, stands-out, stands-in}
+use Rattle.owners.specs.Scoping.{innermost, binding-of, opened, scopes-at, told, noticed}
+use Rattle.owners.proofs.Opened.{fails, stands, opened-in, opened-out, stands-out}
 
 some-none : (n c : ℕ) (f : ℕ → Bool) → ((g : ℕ) → c ≤ g → f g ≡ false) → some-of n c f ≡ false
 unfolding some-of

@@ -1,21 +1,19 @@
 -- One scope left or entered, one occurrence looked at.
-use mathlib.Core.Path.{_≡_, refl, sym, ap, subst, _∙_}
+use mathlib.Core.Path.{_≡_, refl, sym, ap, _∙_}
 use mathlib.Core.List.{List, [], _∷_, map}
-use mathlib.Core.Bool.{Bool, true, false, cond}
 use Prim.Native.Nat.{ℕ, _<_, _≤_}
 use native.Mathlib.Omega.{arith}
 use lib.ListN.{length, getD, replicate}
-use lib.Dec.{ltb}
 use Rattle.std.proofs.shelf.Lists.{length-map, getD-replicate}
 use Rattle.std.proofs.shelf.Tests.{cond-true, cond-false, lt-ltb, le-ltb}
 use Rattle.std.specs.declared.option.Option.{Option}
 use Rattle.std.specs.declared.option.Option.the-variants.{Some, None}
 use Rattle.std.specs.declared.result.Result.{Result}
-use Rattle.std.specs.declared.result.Result.the-variants.{Ok, Err}
+use Rattle.std.specs.declared.result.Result.the-variants.{Ok}
 use Rattle.faults.specs.declared.fault.Fault.{Fault}
 use Rattle.terms.specs.Script.{Script, first}
 use Rattle.terms.proofs.Firsts.{first-zero}
-use Rattle.stores.specs.Meaning.{Meaning, count-of, bind-of, unbind-of, newest, outermost, or-else, seen, look-of}
+use Rattle.stores.specs.Meaning.{Meaning, count-of, bind-of, unbind-of, newest, outermost, or-else, look-of}
 use Rattle.stores.proofs.Laws.{bind-accepts, unbind-done, look-low}
 use Rattle.owners.specs.declared.scope.Scope.{Scope}
 use Rattle.owners.specs.Scoping.{innermost, outer, binding-of, left-at, holding, told, noticed}

@@ -1,6 +1,5 @@
 ghost use mathlib.Core.Path.{_≡_};
 ghost use mathlib.Core.List.{map};
-ghost use mathlib.Core.Bool.{cond};
 ghost use Prim.Native.Nat.{ℕ, suc, _<_, _≤_};
 ghost use lib.ListN.{length, set, replicate};
 ghost use Rattle.std.specs.declared.option.Option.the-variants.{Some, None};
@@ -8,7 +7,7 @@ ghost use Rattle.std.specs.declared.result.Result.the-variants.{Ok, Err};
 ghost use Rattle.terms.specs.Script.{last, term, binds, occurs};
 ghost use Rattle.terms.specs.WellFormed.{WellFormed};
 ghost use Rattle.terms.specs.Model.{model};
-ghost use Rattle.stores.specs.Meaning.{new-store, clear-of};
+ghost use Rattle.stores.specs.Meaning.{new-store};
 ghost use Rattle.owners.specs.Owners.{owner, captured-byte, owners-of, captures-of, found-of};
 ghost use Rattle.owners.specs.Laws.{Owned};
 ghost use Rattle.owners.specs.Scoping.{left-at, entered, binding-of, holding, noticed, Standing};

@@ -6,8 +6,8 @@ ghost use Rattle.stores.specs.Meaning.{new-store};
 ghost use Rattle.shallow.specs.Trail.{unwound, sound};
 use crate::saved::Saved;
 use faults::Fault;
-use stores::Store;
 use stores::Cells;
+use stores::Store;
 
 // A store that keeps each variable's current binding in a cell. The first `free` records of the trail are unused; behind them stands
 // what each binding covered, newest first.

@@ -1,13 +1,13 @@
 -- First labels: that of the first child, or the term's own.
-use mathlib.Core.Path.{_≡_, refl, sym, ap, subst, _∙_}
+use mathlib.Core.Path.{_≡_, refl, sym, _∙_}
 use mathlib.Core.List.{List, [], _∷_}
-use mathlib.Core.Bool.{Bool, true, false, cond, _&&_}
-use mathlib.Core.Logic.{inl, inr, ⊎-elim}
+use mathlib.Core.Bool.{cond, _&&_}
+use mathlib.Core.Logic.{inl, inr}
 use Prim.Native.Nat.{ℕ, zero, suc, _≤_, _<_}
 use native.Mathlib.Omega.{arith}
 use lib.ListN.{length}
 use lib.Dec.{ltb, leb}
-use Rattle.std.proofs.shelf.Tests.{cond-true, cond-false, cases-lt, lt-ltb, le-ltb, le-leb, lt-leb, and-from, and-left, and-right, cases-bool, ltb-true}
+use Rattle.std.proofs.shelf.Tests.{cond-true, cond-false, cases-lt, lt-ltb, le-ltb, le-leb, lt-leb, and-from, and-right}
 use Rattle.terms.specs.declared.term.Term.{Term}
 use Rattle.terms.specs.Syntax.{children}
 use Rattle.terms.specs.Script.{term-at, first-in, first-at}

@@ -10,18 +10,16 @@ use lib.Dec.{eqb, leb}
 use Rattle.std.proofs.shelf.Lists.{length-map}
 use Rattle.std.proofs.shelf.Tests.{cases-bool, cases-eq, cond-true, cond-false, and-parts, and-from, leb-true}
 use Rattle.std.specs.Options.{isSome}
-use Rattle.std.specs.declared.option.Option.{Option}
 use Rattle.std.specs.declared.option.Option.the-variants.{Some, None}
-use Rattle.std.specs.declared.result.Result.{Result}
 use Rattle.std.specs.declared.result.Result.the-variants.{Ok, Err}
 use Rattle.faults.specs.declared.fault.Fault.{Fault}
-use Rattle.faults.specs.declared.fault.Fault.the-variants.{ProgramSizes, WrongTerm, WrongDefinitions}
+use Rattle.faults.specs.declared.fault.Fault.the-variants.{ProgramSizes, WrongDefinitions}
 use Rattle.terms.specs.declared.raw.RawTerm.{RawTerm}
 use Rattle.terms.specs.declared.raw.RawDefinition.{RawDefinition}
 use Rattle.terms.specs.declared.term.Term.{Term}
 use Rattle.terms.specs.declared.term.Definition.{Definition}
 use Rattle.terms.specs.Syntax.{decode}
-use Rattle.terms.specs.Script.{Script, script-in, first-at}
+use Rattle.terms.specs.Script.{script-in, first-at}
 use Rattle.terms.specs.Form.{sizes-right, term-right, terms-right, script-right, definitions-right, roots, covers, well-formed, term-of, definition-of, script-of, wrong-from, all-decode, judged, program-of}
 use Rattle.terms.specs.Reading.{TermsRead, Names-wrong, DefinitionsRead}
 

@@ -1,11 +1,10 @@
 -- Spans lie one inside the other or apart; binders are labels below the entry, of variables below 32.
-use mathlib.Core.Path.{_≡_, refl, sym, ap, subst, _∙_}
+use mathlib.Core.Path.{_≡_, refl, sym, ap, _∙_}
 use mathlib.Core.List.{List, [], _∷_, _++_}
-use mathlib.Core.Bool.{Bool, true, false, cond, _&&_}
+use mathlib.Core.Bool.{true, false, cond, _&&_}
 use mathlib.Core.Logic.{_⊎_, inl, inr}
-use Prim.Native.Nat.{ℕ, zero, suc, _+_, _≤_, _<_}
+use Prim.Native.Nat.{ℕ, zero, suc, _≤_, _<_}
 use native.Mathlib.Omega.{arith}
-use lib.ListN.{length}
 use lib.Dec.{eqb, leb, ltb}
 use Rattle.std.proofs.shelf.Lists.{getD-past}
 use Rattle.std.proofs.shelf.Tests.{and-parts, and-from, leb-true, le-leb, ltb-true, eqb-true, cases-lt, cases-eq, cases-bool}
@@ -17,8 +16,8 @@ use Rattle.terms.specs.declared.term.Term.the-variants.{Number, Quote, Lambda,
 use Rattle.terms.specs.declared.term.Definition.{Definition}
 use Rattle.terms.specs.declared.term.Definition.the-variants.{Input, Defvar, Defun}
 use Rattle.terms.specs.Syntax.{children, symbol-of}
-use Rattle.terms.specs.Script.{Script, last, term-at, term, first, spans, bound-by, lambda-variable, or-else, parameter-for, defun-parameter, binds, parameter, is-body, occurs}
-use Rattle.terms.specs.Form.{definition-right, definitions-right, roots}
+use Rattle.terms.specs.Script.{Script, last, term-at, term, first, spans, bound-by, lambda-variable, or-else, defun-parameter, binds, parameter, is-body, occurs}
+use Rattle.terms.specs.Form.{definitions-right, roots}
 use Rattle.terms.specs.WellFormed.{Cover, WellFormed}
 
 never : {A : Type 0} {x : A} → None ≡ Some x → ⊥

@@ -3,14 +3,14 @@ use mathlib.Core.Path.{_≡_, refl, sym, ap, subst, _∙_}
 use mathlib.Core.List.{List, [], _∷_}
 use mathlib.Core.Bool.{Bool, true, false, cond, _&&_}
 use mathlib.Core.Logic.{inl, inr}
-use Prim.Native.Nat.{ℕ, zero, suc, _≤_, _<_}
+use Prim.Native.Nat.{ℕ, suc, _≤_, _<_}
 use native.Mathlib.Omega.{arith}
 use lib.Dec.{eqb, leb, ltb}
-use Rattle.std.proofs.shelf.Tests.{cond-true, cond-false, cases-bool, and-parts, eqb-true, leb-true, lt-ltb}
+use Rattle.std.proofs.shelf.Tests.{cond-true, cond-false, cases-bool, and-parts, eqb-true, lt-ltb}
 use Rattle.std.specs.declared.option.Option.{Option}
 use Rattle.std.specs.declared.option.Option.the-variants.{Some, None}
 use Rattle.terms.specs.Form.{chained, chained-from}
-use Rattle.terms.specs.Reading.{ends-below, joined, opening}
+use Rattle.terms.specs.Reading.{joined, opening}
 use Rattle.terms.proofs.Firsts.{step}
 
 joined-by : (g : ℕ → ℕ) (c d : ℕ) (ok : Bool) → joined g c (cond ok (Some (g d)) None) ≡ cond (leb 1 c && (eqb (suc c) (g d) && ok)) (Some (g c)) None

@@ -1,16 +1,15 @@
 -- How far the reading of the rows has come.
-use mathlib.Core.Path.{_≡_, refl, sym, ap, subst, _∙_}
+use mathlib.Core.Path.{_≡_, refl, sym, ap, _∙_}
 use mathlib.Core.List.{List, [], _∷_, _++_, map}
-use mathlib.Core.Bool.{Bool, true, false, cond, _&&_}
+use mathlib.Core.Bool.{Bool, cond, _&&_}
 use mathlib.Core.Logic.{inl, inr, _≢_}
-use Prim.Native.Nat.{ℕ, zero, suc, _+_, _≤_, _<_}
+use Prim.Native.Nat.{ℕ, suc, _+_, _≤_, _<_}
 use native.Mathlib.Omega.{arith}
 use native.Mathlib.Numerals.{add-one}
-use lib.ListN.{length, getD, take, drop, set, replicate, length-replicate}
-use Rattle.std.proofs.shelf.Lists.{getD-replicate, getD-past, getD-set-same, getD-set-other, take-more-set, map-more, take-map, getD-map, drop-more, drop-all, take-all, length-map}
+use lib.ListN.{length, getD, take, drop, set, replicate}
+use Rattle.std.proofs.shelf.Lists.{getD-replicate, getD-past, getD-set-same, getD-set-other, take-more-set, map-more, getD-map, drop-more, drop-all, take-all, length-map}
 use Rattle.std.proofs.shelf.Tests.{cases-lt, cases-eq, cases-bool, cond-true, cond-false}
 use Rattle.std.specs.Options.{isSome, valueOr}
-use Rattle.std.specs.declared.option.Option.{Option}
 use Rattle.std.specs.declared.option.Option.the-variants.{Some, None}
 use Rattle.terms.specs.declared.raw.RawTerm.{RawTerm}
 use Rattle.terms.specs.declared.term.Term.{Term}
@@ -18,7 +17,7 @@ use Rattle.terms.specs.declared.term.Term.the-variants.{Quote}
 use Rattle.terms.specs.Syntax.{decode}
 use Rattle.terms.specs.Script.{term-at, first-at}
 use Rattle.terms.specs.Form.{term-right, term-of, wrong-from}
-use Rattle.terms.specs.Reading.{read-term, TermsRead, Names-wrong}
+use Rattle.terms.specs.Reading.{read-term, TermsRead}
 use Rattle.terms.proofs.Firsts.{first-zero, first-past}
 use Rattle.terms.proofs.Rows.{read-is}
 

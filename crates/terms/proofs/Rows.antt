@@ -1,10 +1,8 @@
 -- The reading of one row, and of all of them in turn.
-use mathlib.Core.Path.{_≡_, refl, sym, ap, subst, _∙_}
-use mathlib.Core.List.{List, [], _∷_, map}
+use mathlib.Core.Path.{_≡_, refl, sym, ap, _∙_}
+use mathlib.Core.List.{List}
 use mathlib.Core.Bool.{Bool, true, false, cond, _&&_}
-use mathlib.Core.Logic.{inl, inr}
-use Prim.Native.Nat.{ℕ, zero, suc, _+_, _≤_, _<_}
-use native.Mathlib.Omega.{arith}
+use Prim.Native.Nat.{ℕ, _≤_, _<_}
 use lib.ListN.{length}
 use Rattle.std.specs.Options.{isSome, valueOr}
 use Rattle.std.specs.declared.option.Option.{Option}
@@ -15,7 +13,7 @@ use Rattle.terms.specs.declared.term.Term.the-variants.{Quote}
 use Rattle.terms.specs.Syntax.{children, symbol-of, decode}
 use Rattle.terms.specs.Script.{term-at, first-at}
 use Rattle.terms.specs.Form.{symbol-right, chained, term-right, term-of}
-use Rattle.terms.specs.Reading.{opening, beginning, term-read, read-term}
+use Rattle.terms.specs.Reading.{beginning, term-read, read-term}
 use Rattle.terms.proofs.Firsts.{step, first-le, first-step}
 use Rattle.terms.proofs.Openings.{opening-same, opening-is}
 

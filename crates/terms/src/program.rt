@@ -3,7 +3,7 @@ mod making;
 
 ghost use mathlib.Core.Path.{_≡_};
 ghost use mathlib.Core.Bool.{true};
-ghost use Prim.Native.Nat.{ℕ, _≤_, _<_};
+ghost use Prim.Native.Nat.{ℕ, _≤_};
 ghost use lib.ListN.{length, getD, take};
 ghost use Rattle.terms.specs.Script.{script-in, first-at};
 ghost use Rattle.terms.specs.Form.{well-formed};

@@ -1,14 +1,11 @@
 ghost use mathlib.Core.Path.{_≡_};
-ghost use mathlib.Core.List.{map};
-ghost use mathlib.Core.Bool.{true, _&&_};
-ghost use Prim.Native.Nat.{ℕ, suc, _+_, _≤_, _<_};
-ghost use lib.ListN.{length, getD, take, replicate};
+ghost use mathlib.Core.Bool.{_&&_};
+ghost use Prim.Native.Nat.{_+_, _≤_};
+ghost use lib.ListN.{length, getD, replicate};
 ghost use Rattle.std.specs.Results.{Cases};
 ghost use Rattle.std.specs.declared.option.Option.the-variants.{Some, None};
 ghost use Rattle.faults.specs.declared.fault.Fault.the-variants.{WrongTerm};
 ghost use Rattle.terms.specs.Syntax.{listed};
-ghost use Rattle.terms.specs.Script.{first-at};
-ghost use Rattle.terms.specs.Form.{term-of, definition-of, definition-right, wrong-from, all-decode, script-right};
 ghost use Rattle.terms.specs.Reading.{ends-below, opening, read-term, read-definition, TermsRead, Names-wrong, DefinitionsRead};
 use crate::raw::RawDefinition;
 use crate::raw::RawTerm;

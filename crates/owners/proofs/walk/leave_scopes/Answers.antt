@@ -1,10 +1,10 @@
 use mathlib.Core.Path.{_≡_, refl, sym, ap, _∙_}
-use Prim.Native.Nat.{ℕ, _<_, _≤_}
+use Prim.Native.Nat.{ℕ}
 use native.Mathlib.Omega.{arith}
 use Rattle.std.specs.declared.result.Result.the-variants.{Ok}
 use Rattle.terms.specs.Script.{first}
 use Rattle.terms.specs.Model.{model}
-use Rattle.owners.specs.Scoping.{innermost, left-at, holding}
+use Rattle.owners.specs.Scoping.{innermost, left-at}
 use Rattle.owners.specs.Model.{open-scopes}
 use Rattle.owners.proofs.Turns.{left-stays, left-more, leaves-ok, leaves-held, leaves-fewer}
 use Rattle.owners.proofs.walk.leave_scopes.Given as given

@@ -1,8 +1,7 @@
 use mathlib.Core.Path.{_≡_}
-use mathlib.Core.List.{map}
 use lib.ListN.{length}
 use Rattle.terms.specs.Model.{model}
-use Rattle.owners.specs.Scoping.{binding-of, left-at, holding}
+use Rattle.owners.specs.Scoping.{left-at, holding}
 use Rattle.owners.specs.Model.{open-scopes}
 use Rattle.owners.proofs.walk.leave_scopes.Given as given
 

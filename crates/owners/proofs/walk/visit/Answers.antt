@@ -1,6 +1,5 @@
 use mathlib.Core.Path.{_≡_, refl, sym, ap, _∙_}
 use mathlib.Core.Bool.{cond}
-use Prim.Native.Nat.{ℕ}
 use lib.ListN.{set}
 use Rattle.terms.specs.Model.{model}
 use Rattle.terms.proofs.Nesting.{variable-below, occurrence-below}

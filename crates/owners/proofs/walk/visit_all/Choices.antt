@@ -1,8 +1,5 @@
-use mathlib.Core.Path.{_≡_}
-use Prim.Native.Nat.{ℕ, suc, _<_, _≤_}
-use lib.ListN.{length}
+use Prim.Native.Nat.{suc, _≤_}
 use Rattle.terms.specs.Script.{last}
-use Rattle.terms.specs.WellFormed.{WellFormed}
 use Rattle.terms.specs.Model.{model}
 use Rattle.owners.specs.Scoping.{Standing}
 use Rattle.owners.specs.Model.{open-scopes}

@@ -19,11 +19,11 @@ returns-in-Break-bind g c =
 pub returns-in-Break-unbind : need.returns-in-Break-unbind
 returns-in-Break-unbind g c =
     absurd (one-answer (c .unbind .result) _ (
-      let m = g .S·Store .meaning (c .args .store .now) in
-      let m′ = g .S·Store .meaning (c .bind .last .self) in
-      let done = ap (λ r. (r, m′)) (sym (c .in-Continue-bind .was tt)) ∙ c .bind .ensures in
-      ap (λ q. q .0) (c .unbind .ensures ∙ lawful (g .S·Thing .Denot) .unbind-undoes m m′ (c .args .variable) (c .args .thing) (c .args .birthplace) done))
-      (c .in-Break-unbind .was tt))
+    let m = g .S·Store .meaning (c .args .store .now) in
+    let m′ = g .S·Store .meaning (c .bind .last .self) in
+    let done = ap (λ r. (r, m′)) (sym (c .in-Continue-bind .was tt)) ∙ c .bind .ensures in
+    ap (λ q. q .0) (c .unbind .ensures ∙ lawful (g .S·Thing .Denot) .unbind-undoes m m′ (c .args .variable) (c .args .thing) (c .args .birthplace) done))
+    (c .in-Break-unbind .was tt))
 
 pub returns : need.returns
 returns g c =

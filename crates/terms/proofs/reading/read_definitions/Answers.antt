@@ -1,4 +1,4 @@
-use mathlib.Core.Path.{_≡_, refl, sym, ap}
+use mathlib.Core.Path.{sym}
 use native.Mathlib.Omega.{arith}
 use Rattle.terms.proofs.Defined.{none-defined, one-undefined, one-defined, all-defined}
 use Rattle.terms.proofs.reading.read_definitions.Needs as need
