@@ -97,6 +97,7 @@ pub impl<'a, T: Copy> Store for Deep<'a, T> as DeepStore {
             return Err(Fault::NoSuchVariable);
         }
         if let Some(i) = self.newest(variable) {
+            // through a slice of its own: the field is lent for writing
             let all = &self.records[0..];
             let found = all[i];
             return Ok(Some((found.thing, found.birthplace)));

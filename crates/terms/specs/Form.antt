@@ -63,7 +63,7 @@ abbrev pub covers : (ℕ → ℕ) → ℕ → List ℕ → ℕ → Bool
 covers f a [] z = eqb a z
 covers f a (c ∷ cs) z = eqb (f c) a && covers f (suc c) cs z
 
--- the definitions name symbols, and the spans of the roots in order, then of the entry l, cover 1 to l; f gives first labels
+-- the definitions name symbols, and the spans of the roots in order, then of the entry l, cover a to l; f gives first labels
 abbrev pub script-right : (ℕ → ℕ) → ℕ → ℕ → List Definition → ℕ → Bool
 script-right f v a ds l = definitions-right v ds && covers f a (roots ds ++ (l ∷ [])) (suc l)
 
@@ -79,7 +79,7 @@ well-formed p =
     && (terms-right (p .symbols) (p .terms) (length (p .terms))
     && script-right (first-at (p .terms)) (p .symbols) 1 (p .definitions) (length (p .terms)))
 
--- what a row stands for; a row that stands for nothing is told below
+-- what a row stands for; a row that stands for nothing is refused below
 abbrev pub term-of : RawTerm → Term
 term-of r = valueOr (decode r) (Quote 0)
 

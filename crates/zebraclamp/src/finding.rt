@@ -18,7 +18,6 @@ use std::fmt;
 use stores::Binding;
 use stores::Store;
 use terms::Program;
-use terms::Term;
 
 // what was written at one label
 #[derive(Clone, Copy, PartialEq, Eq)]
@@ -115,9 +114,8 @@ fn find_over<S: Store<Thing = u8>>(
 
 fn is_occurrence(program: &Program, label: u8) -> bool {
     match program.term(label) {
-        Some(Term::Variable(_)) => true,
-        Some(Term::Setq { .. }) => true,
-        _ => false,
+        Some(term) => term.occurrence().is_some(),
+        None => false,
     }
 }
 
