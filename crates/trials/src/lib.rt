@@ -1,4 +1,6 @@
-// Runs both stores, compiled, through one sequence of calls; the answers are those of the rules.
+ghost use Rattle.trials.specs.Worked.{Worked};
+
+// Runs both stores, compiled, through one sequence of calls, and finds the owners of a worked script; the answers are those of the rules.
 #[cfg(test)]
 mod tests {
     use deep::Deep;
@@ -6,12 +8,15 @@ mod tests {
     use faults::Fault;
     use faults::FaultDebug;
     use faults::FaultPartialEq;
+    use owners::find_owners;
     use shallow::Saved;
     use shallow::Shallow;
     use shallow::ShallowStore;
     use std::test::*;
     use stores::Binding;
     use stores::Store;
+    use terms::Program;
+    use terms::RawTerm;
 
     // bindings, newest first, above the top level; a put while a binding stands leaves the top level alone
     fn binds<S: Store<Thing = u8>>(store: &mut S) -> Result<(), Fail> {
@@ -70,5 +75,41 @@ mod tests {
         let mut store = Shallow::over(&mut trail);
         binds(&mut store)?;
         refuses(&mut store)
+    }
+
+    // what the definitions say of the worked scripts, shown by computing
+    fn worked() -> u8
+        ensures { λ _. ⌜ Worked ⌝ }
+    {
+        0
+    }
+
+    fn row(kind: u32, a: u32, b: u32, c: u32) -> RawTerm {
+        RawTerm { kind, a, b, c }
+    }
+
+    // (let x 1 (lambda (y) x)): label 2 is owned by 3, and captured
+    #[test]
+    fn closure() -> Result<(), Fail> {
+        let _ = worked();
+        let terms = [
+            row(1, 1, 0, 0),
+            row(4, 2, 0, 0),
+            row(3, 3, 2, 0),
+            row(6, 2, 1, 3),
+        ];
+        let program = Program::make(&terms, 4, &[])?;
+        let mut records = [Binding {
+            variable: 0,
+            thing: 0u8,
+            birthplace: 0,
+        }; 255];
+        let mut store = Deep::over(&mut records);
+        let mut owners = [9u8; 256];
+        let mut captured = [9u8; 256];
+        find_owners(&program, &mut store, &mut owners, &mut captured)?;
+        check_eq((owners[2], captured[2]), (3, 1))?;
+        check_eq((owners[1], captured[1]), (0, 0))?;
+        check_eq((owners[255], captured[255]), (0, 0))
     }
 }
