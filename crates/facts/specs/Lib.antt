@@ -1,0 +1,4 @@
+pub mod Numbering
+pub mod Table
+pub mod Words
+pub mod Lists
