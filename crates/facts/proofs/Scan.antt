@@ -88,9 +88,6 @@ module _ (ws : List ℕ) (s q w : ℕ) (hs : s < 4608) (hq : q < 72) (read : w �
             ap (holds (in-words ws) s) (sym f) ∙ agrees (i + m) (omega arith) ∙ sym (bit-shr w i m) ∙ tz-below 64 (w / 2 ^ i) m (omega arith),
       )
 
-  pub none-in-word : w ≡ 0 → (k : ℕ) → 64 * q ≤ k → k < 64 * q + 64 → holds (in-words ws) s k ≡ false
-  none-in-word z k lo hi = none-from 0 (div-one w ∙ z) k (omega arith) hi
-
   pub first-in-word : w < 2 ^ 64 → (w ≡ 0 → ⊥)
       → (holds (in-words ws) s (64 * q + trailingZeros 64 w) ≡ true)
       × ((k : ℕ) → 64 * q ≤ k → k < 64 * q + trailingZeros 64 w → holds (in-words ws) s k ≡ false)
