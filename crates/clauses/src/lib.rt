@@ -1,5 +1,7 @@
 // The clauses of a proposal, the verdict on them and the rule for marks: definitions, and what is proved of them, which stands in the
 // contracts of private functions that do nothing. Nothing here checks a proposal.
+#![tactic(auto)]
+
 ghost use Rattle.clauses.specs.Acceptance.{CheckAccepts, CheckRefuses, VerdictAccepts, VerdictRefuses};
 ghost use Rattle.clauses.specs.Marks.{MarksExact, MarksBytes};
 ghost use Rattle.clauses.specs.Numbers.{PartNumbers};

@@ -1,3 +1,5 @@
+#![tactic(auto)]
+
 mod deep;
 
 pub use deep::Deep;

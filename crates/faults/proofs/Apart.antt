@@ -1,8 +1,18 @@
 -- no two faults have one name and the same places
-use Rattle.std.proofs.Common.{◌≡◌, ℕ, zero, suc, ◌+◌, ◌*◌, Bool, cond, eqb, List, [], ◌∷◌, codes, sym, refl, ◌∙◌}
+use Rattle.std.proofs.Common.{◌≡◌, ℕ, zero, suc, ◌+◌, ◌*◌, Bool, true, false, not, ◌&&◌, cond, eqb, List, [], ◌∷◌, codes, sym, refl, ap, ◌∙◌, subst}
 use Prim.Native.String.{String}
-use Rattle.faults.specs.Places.{Place}
-use Rattle.faults.specs.Refusals.{stated}
+use Rattle.std.specs.Prelude.{Decides, nat_eq}
+use Rattle.std.specs.Cmp.Lexicographic.{same_text, pointwise}
+use Rattle.std.specs.Cmp.{both_ways}
+use Rattle.std.specs.Cmp.Derive.{both_true}
+use Rattle.std.proofs.lemmas.Bool.{and_parts}
+use Rattle.std.proofs.Math.Bool.{and-true}
+use Rattle.std.proofs.lemmas.Cmp.{nat_list_eq_equiv}
+use Rattle.faults.specs.Places.{Place, named}
+use Rattle.faults.specs.declared.places.Places.{Places}
+use Rattle.faults.specs.declared.places.Places.TheVariants.{Nowhere, Index, Row, Label, Fact, Clause}
+use Rattle.faults.specs.contracts.places.PlacesPartialEq.TheImpl as derived
+use Rattle.faults.specs.Refusals.{stated, values, same_fault}
 use Rattle.faults.specs.declared.fault.Fault.{Fault}
 use Rattle.faults.specs.declared.fault.Fault.TheVariants.{ProgramSizes, WrongTerm, WrongDefinitions, ListOrder, WrongRow, WrongMask, WrongFact, UnmetClause, WrongMark, StoreLimit, RowUnderWay, NoRow, NotAnInput, MemoryLength, NoSuchVariable, StoreFull, StoreEmpty, VoidVariable, NotAFunction, NotAPair, NotANumber, NoFrameLeft, NoPairLeft}
 
@@ -14,18 +24,18 @@ packed (c ∷ cs) = c + 256 * packed cs
 abbrev is : List ℕ → String → Bool
 is n s = eqb (packed n) (packed (codes s))
 
-abbrev value : ℕ → List Place → ℕ
+abbrev value : ℕ → List ℕ → ℕ
 value k [] = 0
-value zero (p ∷ ps) = p.value
-value (suc k) (p ∷ ps) = value k ps
+value zero (n ∷ ns) = n
+value (suc k) (n ∷ ns) = value k ns
 
 -- the fault of the first row with the name n
 abbrev pick : List ℕ → List (String × Fault) → Fault
 pick n [] = NoRow
 pick n (r ∷ rs) = cond (is n r.0) r.1 (pick n rs)
 
--- the fault that has the name n and the places ps
-abbrev back : List ℕ → List Place → Fault
+-- the fault that has the name n and the numbers ps as places
+abbrev back : List ℕ → List ℕ → Fault
 back n ps = pick n (
     ("program-sizes", ProgramSizes) ∷
     ("wrong-term", WrongTerm (value 0 ps)) ∷
@@ -51,7 +61,7 @@ back n ps = pick n (
     ("no-frame-left", NoFrameLeft (value 0 ps)) ∷
     ("no-pair-left", NoPairLeft (value 0 ps)) ∷ [])
 
-back_stated : (f : Fault) → back (stated f).name (stated f).places ≡ f
+back_stated : (f : Fault) → back (stated f).name (values (stated f).places) ≡ f
 back_stated ProgramSizes = refl
 back_stated (WrongTerm l) = refl
 back_stated WrongDefinitions = refl
@@ -76,5 +86,138 @@ back_stated (NotANumber l) = refl
 back_stated (NoFrameLeft l) = refl
 back_stated (NoPairLeft l) = refl
 
-pub stated_apart : (a b : Fault) → (stated a).name ≡ (stated b).name → (stated a).places ≡ (stated b).places → a ≡ b
+pub stated_apart : (a b : Fault) → (stated a).name ≡ (stated b).name → values (stated a).places ≡ values (stated b).places → a ≡ b
 stated_apart a b p q = sym (back_stated a) ∙ (λ i. back (p i) (q i)) ∙ back_stated b
+
+-- the test tells whether two faults are equal
+pub same_decides : (a b : Fault) → Decides (same_fault a b) (a ≡ b)
+same_decides a b = (
+  λ e. stated_apart a b (same_text _ _ (sym (and_parts _ _ e).0)) (same_text _ _ (sym (and_parts _ _ e).1)),
+  λ e. subst (λ f. same_fault a f ≡ true) e (both_true (nat_list_eq_equiv.refl (stated a).name) (nat_list_eq_equiv.refl (values (stated a).places))),
+)
+
+-- ---- places
+
+abbrev key : Places → List ℕ
+key Nowhere = 0 ∷ []
+key (Index i) = 1 ∷ i ∷ []
+key (Row r) = 2 ∷ r ∷ []
+key (Label l) = 3 ∷ l ∷ []
+key (Fact s n) = 4 ∷ s ∷ n ∷ []
+key (Clause d l k p) = 5 ∷ d ∷ l ∷ k ∷ p ∷ []
+
+abbrev of_kind : ℕ → List ℕ → Places
+of_kind zero ns = Nowhere
+of_kind (suc zero) ns = Index (value 0 ns)
+of_kind (suc (suc zero)) ns = Row (value 0 ns)
+of_kind (suc (suc (suc zero))) ns = Label (value 0 ns)
+of_kind (suc (suc (suc (suc zero)))) ns = Fact (value 0 ns) (value 1 ns)
+of_kind (suc (suc (suc (suc (suc k))))) ns = Clause (value 0 ns) (value 1 ns) (value 2 ns) (value 3 ns)
+
+abbrev keyed : List ℕ → Places
+keyed [] = Nowhere
+keyed (k ∷ ns) = of_kind k ns
+
+keyed_key : (p : Places) → keyed (key p) ≡ p
+keyed_key Nowhere = refl
+keyed_key (Index i) = refl
+keyed_key (Row r) = refl
+keyed_key (Label l) = refl
+keyed_key (Fact s n) = refl
+keyed_key (Clause d l k p) = refl
+
+-- what the derived `==` computes
+abbrev same_places : Places → Places → Bool
+same_places = derived.ghosts.eq
+
+places_test : (p q : Places) → same_places p q ≡ pointwise nat_eq (key p) (key q)
+places_test Nowhere Nowhere = refl
+places_test Nowhere (Index b) = refl
+places_test Nowhere (Row b) = refl
+places_test Nowhere (Label b) = refl
+places_test Nowhere (Fact b0 b1) = refl
+places_test Nowhere (Clause b0 b1 b2 b3) = refl
+places_test (Index a) Nowhere = refl
+places_test (Index a) (Index b) = sym (and-true (eqb a b))
+places_test (Index a) (Row b) = refl
+places_test (Index a) (Label b) = refl
+places_test (Index a) (Fact b0 b1) = refl
+places_test (Index a) (Clause b0 b1 b2 b3) = refl
+places_test (Row a) Nowhere = refl
+places_test (Row a) (Index b) = refl
+places_test (Row a) (Row b) = sym (and-true (eqb a b))
+places_test (Row a) (Label b) = refl
+places_test (Row a) (Fact b0 b1) = refl
+places_test (Row a) (Clause b0 b1 b2 b3) = refl
+places_test (Label a) Nowhere = refl
+places_test (Label a) (Index b) = refl
+places_test (Label a) (Row b) = refl
+places_test (Label a) (Label b) = sym (and-true (eqb a b))
+places_test (Label a) (Fact b0 b1) = refl
+places_test (Label a) (Clause b0 b1 b2 b3) = refl
+places_test (Fact a0 a1) Nowhere = refl
+places_test (Fact a0 a1) (Index b) = refl
+places_test (Fact a0 a1) (Row b) = refl
+places_test (Fact a0 a1) (Label b) = refl
+places_test (Fact a0 a1) (Fact b0 b1) = ap (λ t. eqb a0 b0 && t) (sym (and-true (eqb a1 b1)))
+places_test (Fact a0 a1) (Clause b0 b1 b2 b3) = refl
+places_test (Clause a0 a1 a2 a3) Nowhere = refl
+places_test (Clause a0 a1 a2 a3) (Index b) = refl
+places_test (Clause a0 a1 a2 a3) (Row b) = refl
+places_test (Clause a0 a1 a2 a3) (Label b) = refl
+places_test (Clause a0 a1 a2 a3) (Fact b0 b1) = refl
+places_test (Clause a0 a1 a2 a3) (Clause b0 b1 b2 b3) = λ i. eqb a0 b0 && (eqb a1 b1 && (eqb a2 b2 && sym (and-true (eqb a3 b3)) i))
+
+pub places_decides : (p q : Places) → Decides (same_places p q) (p ≡ q)
+places_decides p q = (
+  λ e. sym (keyed_key p) ∙ ap keyed (same_text _ _ (sym (sym (places_test p q) ∙ e))) ∙ keyed_key q,
+  λ e. subst (λ r. same_places p r ≡ true) e (places_test p p ∙ nat_list_eq_equiv.refl (key p)),
+)
+
+-- the number of a kind of places is told by the first name
+abbrev kind : List Place → ℕ
+kind [] = 0
+kind (p ∷ ps) = packed p.name
+
+abbrev of_named : ℕ → List Place → Places
+of_named k ps =
+    cond (eqb k (packed (codes "index"))) (Index (value 0 (values ps))) (
+    cond (eqb k (packed (codes "row"))) (Row (value 0 (values ps))) (
+    cond (eqb k (packed (codes "label"))) (Label (value 0 (values ps))) (
+    cond (eqb k (packed (codes "set"))) (Fact (value 0 (values ps)) (value 1 (values ps))) (
+    cond (eqb k (packed (codes "definition"))) (Clause (value 0 (values ps)) (value 1 (values ps)) (value 2 (values ps)) (value 3 (values ps))) Nowhere))))
+
+back_named : (p : Places) → of_named (kind (named p)) (named p) ≡ p
+back_named Nowhere = refl
+back_named (Index i) = refl
+back_named (Row r) = refl
+back_named (Label l) = refl
+back_named (Fact s n) = refl
+back_named (Clause d l k p) = refl
+
+named_apart : (p q : Places) → named p ≡ named q → p ≡ q
+named_apart p q e = sym (back_named p) ∙ ap (λ ps. of_named (kind ps) ps) e ∙ back_named q
+
+-- what the comparison of names and places tells
+pub same_by : (a b : Fault) (p q : Places) → named p ≡ (stated a).places → named q ≡ (stated b).places → (stated a).name ≡ (stated b).name → same_places p q ≡ same_fault a b
+same_by a b p q n m e = both_ways _ _
+    (λ s. both_true (subst (λ k. pointwise nat_eq (stated a).name k ≡ true) e (nat_list_eq_equiv.refl (stated a).name))
+    (subst (λ k. pointwise nat_eq (values (stated a).places) k ≡ true) (ap values (sym n ∙ ap named ((places_decides p q).0 s) ∙ m)) (nat_list_eq_equiv.refl (values (stated a).places))))
+    (λ s. (places_decides p q).1 (named_apart p q (n ∙ ap (λ f. (stated f).places) ((same_decides a b).0 s) ∙ sym m)))
+
+was_false : (x : Bool) → not x ≡ true → x ≡ false
+was_false true e = sym e
+was_false false e = refl
+
+was_true : (x : Bool) → not x ≡ false → x ≡ true
+was_true true e = refl
+was_true false e = sym e
+
+-- the names k and m are compared first
+module _ (a b : Fault) (k m : List ℕ) (r : Bool) (of_a : k ≡ (stated a).name) (of_b : m ≡ (stated b).name) (e : r ≡ not (pointwise nat_eq k m)) where
+  pub names_differ : r ≡ true → false ≡ same_fault a b
+  names_differ t = sym (ap (λ x. x && pointwise nat_eq (values (stated a).places) (values (stated b).places))
+      ((λ i. pointwise nat_eq (sym of_a i) (sym of_b i)) ∙ was_false (pointwise nat_eq k m) (sym e ∙ t)))
+
+  pub names_agree : r ≡ false → (stated a).name ≡ (stated b).name
+  names_agree f = sym of_a ∙ same_text k m (sym (was_true (pointwise nat_eq k m) (sym e ∙ f))) ∙ of_b

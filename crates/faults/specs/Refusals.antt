@@ -1,5 +1,7 @@
 -- what each fault states, and how it is printed
-use Rattle.std.specs.Prelude.{ℕ, List, [], ◌∷◌, ◌++◌, codes, decimal}
+use Rattle.std.specs.Prelude.{ℕ, Bool, nat_eq, List, [], ◌∷◌, ◌++◌, codes, decimal}
+use Rattle.std.specs.Cmp.Lexicographic.{pointwise}
+use Rattle.std.specs.Ordering.{eq_of_both, on}
 use Prim.Native.String.{String}
 use Rattle.faults.specs.Places.{Place, at, listed}
 use Rattle.faults.specs.declared.fault.Fault.{Fault}
@@ -38,6 +40,14 @@ stated (NotAPair l) = refusal 42 "not-a-pair" (at "label" l ∷ [])
 stated (NotANumber l) = refusal 43 "not-a-number" (at "label" l ∷ [])
 stated (NoFrameLeft l) = refusal 44 "no-frame-left" (at "label" l ∷ [])
 stated (NoPairLeft l) = refusal 45 "no-pair-left" (at "label" l ∷ [])
+
+abbrev pub values : List Place → List ℕ
+values [] = []
+values (p ∷ ps) = p.value ∷ values ps
+
+-- whether two faults are the same: one name, and the same numbers as places
+abbrev pub same_fault : Fault → Fault → Bool
+same_fault = eq_of_both (on (λ f. (stated f).name) (pointwise nat_eq)) (on (λ f. values (stated f).places) (pointwise nat_eq))
 
 abbrev pub text : Refusal → List ℕ
 text r = decimal r.number ++ (codes " " ++ (r.name ++ (codes " " ++ listed r.places)))

@@ -1,10 +1,9 @@
 // Why a call is refused or a row stops: one case for each reason, with the places that the rules name for it.
 ghost use Rattle.std.specs.Prelude.{◌≡◌, Some, Decides};
 ghost use Rattle.faults.specs.Places.{named};
-ghost use Rattle.faults.specs.Refusals.{stated, text};
-ghost use Rattle.std.specs.Cmp.Rules.{comparing};
-ghost use Rattle.std.proofs.Common.{rules};
-ghost use Rattle.std.specs.Cmp as Keys;
+ghost use Rattle.faults.specs.Refusals.{stated, text, values, same_fault};
+ghost use Rattle.std.specs.Cmp.{and_equiv, partial_equiv_from_equiv};
+ghost use Rattle.std.specs.Cmp.Lexicographic.{on_texts_equal};
 
 use crate::places::Places;
 use std::fmt;
@@ -169,13 +168,16 @@ impl Fault {
     }
 }
 
-// Written out, since a derived `==` on this many cases ensures nothing. No two cases share a name.
+// Written out: no two cases share a name, so names and places tell faults apart.
 impl PartialEq for Fault {
-    ghost equals = { λ x y r. Decides r (x ≡ y) };
+    ghost eq = { same_fault };
 
-    ghost laws = { Keys.partial_equiv_from_equiv (Prim.search (comparing, rules)) };
+    ghost laws = { partial_equiv_from_equiv (and_equiv (on_texts_equal (λ f. (stated f).name)) (on_texts_equal (λ f. values (stated f).places))) };
 
-    fn eq(&self, other: &Fault) -> bool {
+    fn eq(&self, other: &Fault) -> bool
+        ensures test { result ≡ same_fault self.now other.now }
+        ensures equality { Decides result (self.now ≡ other.now) }
+    {
         if self.name() != other.name() {
             return false;
         }
@@ -184,7 +186,7 @@ impl PartialEq for Fault {
 }
 
 impl Eq for Fault {
-    ghost laws = { Prim.search (comparing, rules) };
+    ghost laws = { and_equiv (on_texts_equal (λ f. (stated f).name)) (on_texts_equal (λ f. values (stated f).places)) };
 }
 
 impl fmt::Display for Fault {

@@ -1,4 +1,6 @@
 // The machine of runs: definitions, and what is proved of them, which stands in the contracts of private functions that do nothing.
+#![tactic(auto)]
+
 ghost use Rattle.machine.specs.Laws.{RefusedSame, AlwaysOrderly, NeverMore, NeverDeclined, ScopesClose, ReadsNewest, AssignsNewest, RunsAreSteps, BeginsByRule};
 ghost use Rattle.machine.specs.Worked.{Worked};
 

@@ -1,3 +1,5 @@
+#![tactic(auto)]
+
 mod scope;
 mod scopes;
 mod walk;

@@ -1,4 +1,6 @@
 // What accepted tables and the marks of the rule promise of every run: the statement and its proof.
+#![tactic(auto)]
+
 ghost use Rattle.promise.specs.Promise.{Promise, PassedPromise, AlwaysFinds};
 ghost use Rattle.promise.specs.Worked.{Worked};
 

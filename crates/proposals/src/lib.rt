@@ -1,3 +1,5 @@
+#![tactic(auto)]
+
 mod proposal;
 
 pub use proposal::Proposal;

@@ -1,3 +1,5 @@
+#![tactic(auto)]
+
 mod saved;
 mod shallow;
 

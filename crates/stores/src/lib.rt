@@ -1,3 +1,5 @@
+#![tactic(auto)]
+
 mod binding;
 mod cells;
 mod lent;

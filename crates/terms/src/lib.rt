@@ -1,3 +1,5 @@
+#![tactic(auto)]
+
 mod program;
 mod raw;
 mod reading;

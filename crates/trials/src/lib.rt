@@ -1,3 +1,5 @@
+#![tactic(auto)]
+
 ghost use Rattle.trials.specs.Worked.{Worked};
 
 // Runs both stores, compiled, through one sequence of calls, and finds the owners of a worked script; the answers are those of the rules.

@@ -1,3 +1,5 @@
+#![tactic(auto)]
+
 mod call;
 mod frame;
 mod turn;

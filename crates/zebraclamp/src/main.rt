@@ -1,4 +1,6 @@
 // Reads cases from standard input, or from the files that are named as arguments, and prints what came of each command.
+#![tactic(auto)]
+
 mod cases;
 mod drafts;
 mod entries;
