@@ -19,7 +19,7 @@ pub trait Facts {
 
 // Whether every fact of set a is in set b.
 pub fn within<F: Facts>(facts: &F, a: u16, b: u16) -> bool
-    ensures { Decides result (Within (members facts.now) a b) }
+    ensures { Decides result (Within (F.members facts.now) a b) }
 {
     let mut from = 0;
     while let Some(fact) = facts.next(a, from) {

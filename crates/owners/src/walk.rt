@@ -21,10 +21,10 @@ fn leave_scopes<S: Store<Thing = u8>>(
     scopes: &mut Scopes,
     label: u8,
 ) -> Result<(), Fault>
-    requires { (meaning store.old).bindings ≡ map (binding_of (model program.now)) (open_scopes scopes.old) }
+    requires { (S.meaning store.old).bindings ≡ map (binding_of (model program.now)) (open_scopes scopes.old) }
     ensures done { result ≡ Ok tt }
     ensures scopes { open_scopes scopes.new ≡ left_at (model program.now) label (open_scopes scopes.old) }
-    ensures store { meaning store.new ≡ holding (model program.now) (meaning store.old) (open_scopes scopes.new) }
+    ensures store { S.meaning store.new ≡ holding (model program.now) (S.meaning store.old) (open_scopes scopes.new) }
 {
     while program.first(scopes.innermost().binder) > label {
         store.unbind()?;
@@ -40,10 +40,10 @@ fn enter_scope<S: Store<Thing = u8>>(
     scopes: &mut Scopes,
     label: u8,
 ) -> Result<(), Fault>
-    requires { ((meaning store.old).bindings ≡ map (binding_of (model program.now)) (open_scopes scopes.old)) × ((length (open_scopes scopes.old) < 255) × ((255 ≤ (meaning store.old).limit) × (((x : ℕ) → binds (model program.now) label ≡ Some x → x < 32)))) }
+    requires { ((S.meaning store.old).bindings ≡ map (binding_of (model program.now)) (open_scopes scopes.old)) × ((length (open_scopes scopes.old) < 255) × ((255 ≤ (S.meaning store.old).limit) × (((x : ℕ) → binds (model program.now) label ≡ Some x → x < 32)))) }
     ensures done { result ≡ Ok tt }
     ensures scopes { open_scopes scopes.new ≡ entered (model program.now) label (open_scopes scopes.old) }
-    ensures store { meaning store.new ≡ holding (model program.now) (meaning store.old) (open_scopes scopes.new) }
+    ensures store { S.meaning store.new ≡ holding (model program.now) (S.meaning store.old) (open_scopes scopes.new) }
 {
     if let Some(variable) = program.binder(label) {
         let function = if program.is_body(label) {
@@ -67,7 +67,7 @@ fn owner_at<S: Store<Thing = u8>>(
     scopes: &Scopes,
     label: u8,
 ) -> Result<(u8, bool), Fault>
-    requires { ((meaning store.now).bindings ≡ map (binding_of (model program.now)) (open_scopes scopes.now)) × (((meaning store.now).top ≡ replicate 32 None) × (((x : ℕ) → occurs (term (model program.now) label) ≡ Some x → x < 32))) }
+    requires { ((S.meaning store.now).bindings ≡ map (binding_of (model program.now)) (open_scopes scopes.now)) × (((S.meaning store.now).top ≡ replicate 32 None) × (((x : ℕ) → occurs (term (model program.now) label) ≡ Some x → x < 32))) }
     ensures { result ≡ Ok (noticed (model program.now) (open_scopes scopes.now) (occurs (term (model program.now) label))) }
 {
     let Some(variable) = occurrence(program, label) else {
@@ -95,9 +95,9 @@ fn visit<S: Store<Thing = u8>>(
     owners: &mut [u8],
     captured: &mut [u8],
 ) -> Result<(), Fault>
-    requires { (WellFormed (model program.now)) × (((1 ≤ label) × (label ≤ last (model program.now))) × ((255 ≤ (meaning store.old).limit) × ((Standing (model program.now) (suc label) (meaning store.old).limit (open_scopes scopes.old) (meaning store.old)) × ((length owners.old ≡ 256) × (length captured.old ≡ 256))))) }
+    requires { (WellFormed (model program.now)) × (((1 ≤ label) × (label ≤ last (model program.now))) × ((255 ≤ (S.meaning store.old).limit) × ((Standing (model program.now) (suc label) (S.meaning store.old).limit (open_scopes scopes.old) (S.meaning store.old)) × ((length owners.old ≡ 256) × (length captured.old ≡ 256))))) }
     ensures done { result ≡ Ok tt }
-    ensures standing { Standing (model program.now) label (meaning store.old).limit (open_scopes scopes.new) (meaning store.new) }
+    ensures standing { Standing (model program.now) label (S.meaning store.old).limit (open_scopes scopes.new) (S.meaning store.new) }
     ensures owners { owners.new ≡ slice_set owners.old label (owner (model program.now) label) }
     ensures captured { captured.new ≡ slice_set captured.old label (captured_byte (model program.now) label) }
 {
@@ -116,9 +116,9 @@ fn visit_all<S: Store<Thing = u8>>(
     owners: &mut [u8],
     captured: &mut [u8],
 ) -> Result<(), Fault>
-    requires { (255 ≤ (meaning store.old).limit) × ((meaning store.old ≡ new_store ℕ (meaning store.old).limit) × ((owners.old ≡ replicate 256 0) × (captured.old ≡ replicate 256 0))) }
+    requires { (255 ≤ (S.meaning store.old).limit) × ((S.meaning store.old ≡ new_store ℕ (S.meaning store.old).limit) × ((owners.old ≡ replicate 256 0) × (captured.old ≡ replicate 256 0))) }
     ensures done { result ≡ Ok tt }
-    ensures limit { (meaning store.new).limit ≡ (meaning store.old).limit }
+    ensures limit { (S.meaning store.new).limit ≡ (S.meaning store.old).limit }
     ensures owners { owners.new ≡ owners_of (model program.now) }
     ensures captured { captured.new ≡ captures_of (model program.now) }
 {
@@ -139,7 +139,7 @@ pub fn find_owners<S: Store<Thing = u8>>(
     owners: &mut [u8],
     captured: &mut [u8],
 ) -> Result<(), Fault>
-    ensures result { (result, (meaning store.new, (owners.new, captured.new))) ≡ found_of (model program.now) (meaning store.old) owners.old captured.old }
+    ensures result { (result, (S.meaning store.new, (owners.new, captured.new))) ≡ found_of (model program.now) (S.meaning store.old) owners.old captured.old }
     ensures owned { (l : ℕ) → Owned (model program.now) l }
 {
     if owners.len() != 256 || captured.len() != 256 {

@@ -13,8 +13,8 @@ pub fn shadowed<S: Store>(
     birthplace: u8,
 ) -> Result<Option<(S::Thing, u8)>, Fault>
     ensures laws { Lawful S.Thing }
-    ensures same { meaning store.new ≡ meaning store.old }
-    ensures shows { result ≡ shadow_of (meaning store.old) variable thing birthplace }
+    ensures same { S.meaning store.new ≡ S.meaning store.old }
+    ensures shows { result ≡ shadow_of (S.meaning store.old) variable thing birthplace }
 {
     store.bind(variable, thing, birthplace)?;
     let shown = (*store).look(variable);

@@ -21,7 +21,7 @@ fn is_cons(program: &Program, label: u8) -> bool
 
 impl<'a, F: Facts> Proposal<'a, F> {
     pub(crate) fn check_rows(&self, program: &Program) -> Result<(), Fault>
-        ensures { result ≡ rows_verdict (model program.now) (tables members self.now) }
+        ensures { result ≡ rows_verdict (model program.now) (tables F.members self.now) }
     {
         for row in 0..self.contexts() {
             if !self.row_right(program, row) {
@@ -32,7 +32,7 @@ impl<'a, F: Facts> Proposal<'a, F> {
     }
 
     pub(crate) fn check_masks(&self, program: &Program) -> Result<(), Fault>
-        ensures { result ≡ masks_verdict (model program.now) (tables members self.now) }
+        ensures { result ≡ masks_verdict (model program.now) (tables F.members self.now) }
     {
         for at in 0..256u16 {
             let label = at as u8;
@@ -44,7 +44,7 @@ impl<'a, F: Facts> Proposal<'a, F> {
     }
 
     pub(crate) fn check_facts(&self, program: &Program) -> Result<(), Fault>
-        ensures { result ≡ facts_verdict (model program.now) (tables members self.now) }
+        ensures { result ≡ facts_verdict (model program.now) (tables F.members self.now) }
     {
         for set in 0..SETS {
             if let Some(fact) = self.wrong_fact(program, set) {
@@ -55,13 +55,13 @@ impl<'a, F: Facts> Proposal<'a, F> {
     }
 
     fn row_right(&self, program: &Program, row: u8) -> bool
-        ensures { result ≡ row_right (model program.now) (tables members self.now) row }
+        ensures { result ≡ row_right (model program.now) (tables F.members self.now) row }
     {
         (row > 0 || self.is_zero(row)) && self.entries_right(program, row) && self.is_new(row)
     }
 
     fn is_zero(&self, row: u8) -> bool
-        ensures { result ≡ zero_row (tables members self.now) row }
+        ensures { result ≡ zero_row (tables F.members self.now) row }
     {
         for variable in 0..32 {
             if self.entry(row, variable) != 0 {
@@ -72,7 +72,7 @@ impl<'a, F: Facts> Proposal<'a, F> {
     }
 
     fn entries_right(&self, program: &Program, row: u8) -> bool
-        ensures { result ≡ entries_right (model program.now) (tables members self.now) row }
+        ensures { result ≡ entries_right (model program.now) (tables F.members self.now) row }
     {
         for variable in 0..32 {
             if !self.entry_right(program, row, variable) {
@@ -84,7 +84,7 @@ impl<'a, F: Facts> Proposal<'a, F> {
 
     // whether the entry is 0 or a binder of the variable
     fn entry_right(&self, program: &Program, row: u8, variable: u8) -> bool
-        ensures { result ≡ entry_right (model program.now) (tables members self.now) row variable }
+        ensures { result ≡ entry_right (model program.now) (tables F.members self.now) row variable }
     {
         let birthplace = self.entry(row, variable);
         if birthplace == 0 {
@@ -101,7 +101,7 @@ impl<'a, F: Facts> Proposal<'a, F> {
 
     // whether no earlier row is equal
     fn is_new(&self, row: u8) -> bool
-        ensures { result ≡ new_row (tables members self.now) row }
+        ensures { result ≡ new_row (tables F.members self.now) row }
     {
         for earlier in 0..row {
             if self.same_rows(earlier, row) {
@@ -112,7 +112,7 @@ impl<'a, F: Facts> Proposal<'a, F> {
     }
 
     fn same_rows(&self, one: u8, other: u8) -> bool
-        ensures { result ≡ same_rows (tables members self.now) one other }
+        ensures { result ≡ same_rows (tables F.members self.now) one other }
     {
         for variable in 0..32 {
             if self.entry(one, variable) != self.entry(other, variable) {
@@ -123,7 +123,7 @@ impl<'a, F: Facts> Proposal<'a, F> {
     }
 
     fn mask_right(&self, program: &Program, label: u8) -> bool
-        ensures { result ≡ mask_right (model program.now) (tables members self.now) label }
+        ensures { result ≡ mask_right (model program.now) (tables F.members self.now) label }
     {
         for context in 0..16 {
             if self.listed(label, context) && !self.may_list(program, label, context) {
@@ -134,14 +134,14 @@ impl<'a, F: Facts> Proposal<'a, F> {
     }
 
     fn may_list(&self, program: &Program, label: u8, context: u8) -> bool
-        ensures { result ≡ may_list (model program.now) (tables members self.now) label context }
+        ensures { result ≡ may_list (model program.now) (tables F.members self.now) label context }
     {
         1 <= label && label <= program.last() && context < self.contexts()
     }
 
     // the first fact of the set that is not right
     fn wrong_fact(&self, program: &Program, set: u16) -> Option<u16>
-        ensures { result ≡ wrong_fact (model program.now) (tables members self.now) set }
+        ensures { result ≡ wrong_fact (model program.now) (tables F.members self.now) set }
     {
         let mut from = 0;
         while let Some(fact) = self.facts.next(set, from) {
@@ -154,7 +154,7 @@ impl<'a, F: Facts> Proposal<'a, F> {
     }
 
     fn fact_right(&self, program: &Program, number: u16) -> bool
-        ensures { result ≡ fact_right (model program.now) (tables members self.now) number }
+        ensures { result ≡ fact_right (model program.now) (tables F.members self.now) number }
     {
         match Fact::of(number) {
             Some(fact) => self.names(program, fact),
@@ -164,7 +164,7 @@ impl<'a, F: Facts> Proposal<'a, F> {
 
     // whether the fact is 'a number', or names something of this program and this proposal
     fn names(&self, program: &Program, fact: Fact) -> bool
-        ensures { result ≡ names (model program.now) (tables members self.now) fact }
+        ensures { result ≡ names (model program.now) (tables F.members self.now) fact }
     {
         match fact {
             Fact::Symbol(symbol) => symbol < program.symbols(),

@@ -18,14 +18,14 @@ fn number(numbers: &[u16], at: usize) -> u16
 impl<'a, F: Facts> Proposal<'a, F> {
     // How many contexts there are.
     pub fn contexts(&self) -> u8
-        ensures { result ≡ contexts (tables members self.now) }
+        ensures { result ≡ contexts (tables F.members self.now) }
     {
         (self.rows.len() / 32) as u8
     }
 
     // The birthplace that the context has for the variable.
     pub fn entry(&self, context: u8, variable: u8) -> u16
-        ensures { result ≡ entry (tables members self.now) context variable }
+        ensures { result ≡ entry (tables F.members self.now) context variable }
     {
         if variable < 32 {
             number(self.rows, 32 * context as usize + variable as usize)
@@ -36,14 +36,14 @@ impl<'a, F: Facts> Proposal<'a, F> {
 
     // Whether the context is listed for the label.
     pub fn listed(&self, label: u8, context: u8) -> bool
-        ensures { result ≡ listed (tables members self.now) label context }
+        ensures { result ≡ listed (tables F.members self.now) label context }
     {
         context < 16 && (number(self.masks, label as usize) >> context) & 1 == 1
     }
 
     // The context that is this one with another birthplace for the variable.
     pub fn extension(&self, context: u8, variable: u8, birthplace: u8) -> Option<u8>
-        ensures { result ≡ extension (tables members self.now) context variable birthplace }
+        ensures { result ≡ extension (tables F.members self.now) context variable birthplace }
     {
         if context >= self.contexts() || variable > 31 {
             return None;
@@ -58,7 +58,7 @@ impl<'a, F: Facts> Proposal<'a, F> {
 
     // the context with another birthplace for the variable, at x
     fn entry_with(&self, context: u8, variable: u8, birthplace: u8, x: u8) -> u16
-        ensures { result ≡ entry_with (tables members self.now) context variable birthplace x }
+        ensures { result ≡ entry_with (tables F.members self.now) context variable birthplace x }
     {
         if variable == x {
             birthplace as u16
@@ -69,7 +69,7 @@ impl<'a, F: Facts> Proposal<'a, F> {
 
     // whether `row` is the context with another birthplace for the variable
     fn extends(&self, row: u8, context: u8, variable: u8, birthplace: u8) -> bool
-        ensures { result ≡ extends (tables members self.now) context variable birthplace row }
+        ensures { result ≡ extends (tables F.members self.now) context variable birthplace row }
     {
         for x in 0..32 {
             let wanted = self.entry_with(context, variable, birthplace, x);

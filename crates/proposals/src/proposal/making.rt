@@ -16,8 +16,8 @@ impl<'a, F: Facts> Proposal<'a, F> {
         rows: &'a [u16],
         masks: &'a [u16],
     ) -> Result<Proposal<'a, F>, Fault>
-        ensures verdict { made_tables members result ≡ proposal_of (model program.now) (lent (members facts.now) rows.now masks.now) }
-        ensures exactly { MatchResult result (λ _. DueForm (model program.now) (lent (members facts.now) rows.now masks.now)) (λ _. DueForm (model program.now) (lent (members facts.now) rows.now masks.now) → ⊥) }
+        ensures verdict { made_tables F.members result ≡ proposal_of (model program.now) (lent (F.members facts.now) rows.now masks.now) }
+        ensures exactly { MatchResult result (λ _. DueForm (model program.now) (lent (F.members facts.now) rows.now masks.now)) (λ _. DueForm (model program.now) (lent (F.members facts.now) rows.now masks.now) → ⊥) }
     {
         if rows.len() % 32 != 0 || rows.len() < 32 || rows.len() > 512 || masks.len() != 256 {
             return Err(Fault::MemoryLength);

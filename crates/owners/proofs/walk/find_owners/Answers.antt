@@ -8,8 +8,8 @@ use Rattle.owners.proofs.Laws.{owned}
 use Rattle.owners.proofs.Visits.{cleared_new}
 use Rattle.owners.proofs.walk.find_owners.Goals as goal
 
-pub visit-all-requires : goal.visit-all-requires
-visit-all-requires g c =
+pub visit_all-requires : goal.visit_all-requires
+visit_all-requires g c =
     let same : (g.S.Store.meaning c.clear.new.self).limit ≡ (g.S.Store.meaning c.args.store.now).limit = ap (λ (u : Meaning ℕ). u.limit) c.clear.ensures in (
       omega (arith, c.limit.ensures.answer, c.if-limit-lt255.false),
       (

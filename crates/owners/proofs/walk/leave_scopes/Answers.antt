@@ -10,14 +10,14 @@ use Rattle.owners.proofs.walk.leave_scopes.Goals as goal
 pub loop-store-init : goal.loop-store-init
 loop-store-init g c = (refl, ap (λ bs. record { bindings = bs; top = (g.S.Store.meaning c.args.store.now).top; limit = (g.S.Store.meaning c.args.store.now).limit }) c.requires)
 
-pub returns-in-err-unbind : goal.returns-in-err-unbind
-returns-in-err-unbind g c =
+pub returns-in_err-unbind : goal.returns-in_err-unbind
+returns-in_err-unbind g c =
     absurd (
     let p = model c.args.program.now in
     let ss = open_scopes c.loop-store.scopes in
     let e : c.first.result ≡ first p (innermost ss).binder = c.first.ensures ∙ ap (λ s. first p s.binder) c.innermost.ensures in
     let ok : c.unbind.result ≡ Ok tt = leaves_ok p c.args.label (g.S.Store.meaning c.args.store.now) _ _ _ ss ss c.unbind.ensures c.loop-store.invariant.1 (omega arith) in
-    let refused = c.in-err-unbind.was in
+    let refused = c.in_err-unbind.was in
     let z : ◌≡◌ {A = ℕ} 0 1 = cc in omega arith)
 
 pub loop-store-preserved : goal.loop-store-preserved

@@ -4,10 +4,10 @@ use Rattle.stores.specs.Meaning.{shown_by}
 use Rattle.stores.proofs.Laws.{lawful, bind_refused, one_answer}
 use Rattle.stores.proofs.shadow.shadowed.Goals as goal
 
-pub returns-in-err-bind : goal.returns-in-err-bind
-returns-in-err-bind g c =
-    let p = err_from_is_err_and c.from-residual.result c.from-residual.ensures.1 in
-    let was = c.in-err-bind.was in
+pub returns-in_err-bind : goal.returns-in_err-bind
+returns-in_err-bind g c =
+    let p = err_from_is_err_and c.from_residual.result c.from_residual.ensures.1 in
+    let was = c.in_err-bind.was in
     record {
       laws = lawful g.row.S-Thing.Denot;
       same = bind_refused _ _ c.args.variable c.args.thing c.args.birthplace _ c.bind.ensures _ was;
@@ -15,14 +15,14 @@ returns-in-err-bind g c =
     }
 
 -- a binding stands, so it can be taken off
-pub returns-in-err-unbind : goal.returns-in-err-unbind
-returns-in-err-unbind g c =
+pub returns-in_err-unbind : goal.returns-in_err-unbind
+returns-in_err-unbind g c =
     absurd (one_answer c.unbind.result _ (
     let m = g.S.Store.meaning c.args.store.now in
     let m' = g.S.Store.meaning c.bind.new.self in
-    let done = ap (λ r. (r, m')) (sym c.in-ok-bind.was) ∙ c.bind.ensures in
+    let done = ap (λ r. (r, m')) (sym c.in_ok-bind.was) ∙ c.bind.ensures in
     ap (λ q. q.0) (c.unbind.ensures ∙ (lawful g.row.S-Thing.Denot).unbind_undoes m m' c.args.variable c.args.thing c.args.birthplace done))
-    c.in-err-unbind.was)
+    c.in_err-unbind.was)
 
 pub returns : goal.returns
 returns g c =
@@ -32,7 +32,7 @@ returns g c =
     let x = c.args.variable in
     let t = c.args.thing in
     let b = c.args.birthplace in
-    let done = ap (λ r. (r, m')) (sym c.in-ok-bind.was) ∙ c.bind.ensures in
+    let done = ap (λ r. (r, m')) (sym c.in_ok-bind.was) ∙ c.bind.ensures in
     record {
       laws = laws;
       same = ap (λ q. q.1) (c.unbind.ensures ∙ laws.unbind_undoes m m' x t b done);

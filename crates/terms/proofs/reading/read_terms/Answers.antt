@@ -5,8 +5,8 @@ use Rattle.terms.proofs.reading.read_terms.Goals as goal
 pub loop-i-init : goal.loop-i-init
 loop-i-init c = none_read _ _ _ _ c.requires.1.1
 
-pub returns-in-default : goal.returns-in-default
-returns-in-default c = (_, one_wrong _ _ _ _ _ _ c.loop-i-test.true c.loop-i.invariant (sym c.in-default.ensures), refl)
+pub returns-in_default : goal.returns-in_default
+returns-in_default c = (_, one_wrong _ _ _ _ _ _ c.loop-i-test.true c.loop-i.invariant (sym c.in_default.ensures), refl)
 
 pub loop-i-preserved : goal.loop-i-preserved
 loop-i-preserved c =

@@ -23,7 +23,7 @@ pub returns-in-Some-at : goal.returns-in-Some-at
 returns-in-Some-at g c =
     let s = c.args.self.now in
     record {
-      answer = look_top s.records.now s.free s.top.things s.within c.args.variable _ c.if-variable-gt31.false c.in-default.ensures c.in-Some-at.ensures;
+      answer = look_top s.records.now s.free s.top.things s.within c.args.variable _ c.if-variable-gt31.false c.in_default.ensures c.in-Some-at.ensures;
       formed = formed s.records.now s.free s.top.things s.within s.top.sized;
     }
 
@@ -31,6 +31,6 @@ pub returns-in-None : goal.returns-in-None
 returns-in-None g c =
     let s = c.args.self.now in
     record {
-      answer = look_top s.records.now s.free s.top.things s.within c.args.variable _ c.if-variable-gt31.false c.in-default.ensures c.in-None.ensures;
+      answer = look_top s.records.now s.free s.top.things s.within c.args.variable _ c.if-variable-gt31.false c.in_default.ensures c.in-None.ensures;
       formed = formed s.records.now s.free s.top.things s.within s.top.sized;
     }

@@ -15,25 +15,25 @@ returns-then-rows-ne0 g c =
     ])) in
     record { verdict = declined _ _ _ d; exactly = not_due _ _ (facts_of _ c.args.program.now.formed) _ d }
 
-pub returns-in-err-check-rows : goal.returns-in-err-check-rows
-returns-in-err-check-rows g c =
-    let q = err_from_is_err_and c.from-residual.result c.from-residual.ensures.1 in
-    let d = wrong_rows _ _ (memory_lengths _ c.if-rows-ne0.false c.if-rows-lt32.false c.if-rows-gt512.false c.if-masks-ne256.false) _ c.in-err-check-rows.ensures in
+pub returns-in_err-check_rows : goal.returns-in_err-check_rows
+returns-in_err-check_rows g c =
+    let q = err_from_is_err_and c.from_residual.result c.from_residual.ensures.1 in
+    let d = wrong_rows _ _ (memory_lengths _ c.if-rows-ne0.false c.if-rows-lt32.false c.if-rows-gt512.false c.if-masks-ne256.false) _ c.in_err-check_rows.ensures in
     record { verdict = rw (q.1, q.2) (declined _ _ _ d); exactly = rw q.1 (not_due _ _ (facts_of _ c.args.program.now.formed) _ d) }
 
-pub returns-in-err-check-masks : goal.returns-in-err-check-masks
-returns-in-err-check-masks g c =
-    let q = err_from_is_err_and c.from-residual-in-err-check-masks.result c.from-residual-in-err-check-masks.ensures.1 in
-    let d = wrong_masks _ _ (memory_lengths _ c.if-rows-ne0.false c.if-rows-lt32.false c.if-rows-gt512.false c.if-masks-ne256.false) c.in-ok-check-rows.ensures _ c.in-err-check-masks.ensures in
+pub returns-in_err-check_masks : goal.returns-in_err-check_masks
+returns-in_err-check_masks g c =
+    let q = err_from_is_err_and c.from_residual-in_err-check_masks.result c.from_residual-in_err-check_masks.ensures.1 in
+    let d = wrong_masks _ _ (memory_lengths _ c.if-rows-ne0.false c.if-rows-lt32.false c.if-rows-gt512.false c.if-masks-ne256.false) c.in_ok-check_rows.ensures _ c.in_err-check_masks.ensures in
     record { verdict = rw (q.1, q.2) (declined _ _ _ d); exactly = rw q.1 (not_due _ _ (facts_of _ c.args.program.now.formed) _ d) }
 
-pub returns-in-err-check-facts : goal.returns-in-err-check-facts
-returns-in-err-check-facts g c =
-    let q = err_from_is_err_and c.from-residual-in-err-check-facts.result c.from-residual-in-err-check-facts.ensures.1 in
-    let d = past_masks _ _ (memory_lengths _ c.if-rows-ne0.false c.if-rows-lt32.false c.if-rows-gt512.false c.if-masks-ne256.false) c.in-ok-check-rows.ensures c.in-ok-check-masks.ensures ∙ sym c.in-err-check-facts.ensures in
+pub returns-in_err-check_facts : goal.returns-in_err-check_facts
+returns-in_err-check_facts g c =
+    let q = err_from_is_err_and c.from_residual-in_err-check_facts.result c.from_residual-in_err-check_facts.ensures.1 in
+    let d = past_masks _ _ (memory_lengths _ c.if-rows-ne0.false c.if-rows-lt32.false c.if-rows-gt512.false c.if-masks-ne256.false) c.in_ok-check_rows.ensures c.in_ok-check_masks.ensures ∙ sym c.in_err-check_facts.ensures in
     record { verdict = rw (q.1, q.2) (declined _ _ _ d); exactly = rw q.1 (not_due _ _ (facts_of _ c.args.program.now.formed) _ d) }
 
 pub returns : goal.returns
 returns g c =
-    let d = past_masks _ _ (memory_lengths _ c.if-rows-ne0.false c.if-rows-lt32.false c.if-rows-gt512.false c.if-masks-ne256.false) c.in-ok-check-rows.ensures c.in-ok-check-masks.ensures ∙ sym c.in-ok-check-facts.ensures in
+    let d = past_masks _ _ (memory_lengths _ c.if-rows-ne0.false c.if-rows-lt32.false c.if-rows-gt512.false c.if-masks-ne256.false) c.in_ok-check_rows.ensures c.in_ok-check_masks.ensures ∙ sym c.in_ok-check_facts.ensures in
     record { verdict = made _ _ d; exactly = due_since _ _ d }

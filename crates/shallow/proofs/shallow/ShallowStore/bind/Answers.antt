@@ -14,11 +14,11 @@ returns-then-self-eq0 g c =
     let s = c.args.self.now in
     bind_full s.cells.things s.trail.now s.free s.top.things s.within s.sound c.args.variable c.args.thing c.args.birthplace c.if-variable-gt31.false c.if-self-eq0.true
 
-pub offset-bounds-self-at : goal.offset-bounds-self-at
-offset-bounds-self-at g c = let h : c.args.self.now.free - 1 < length c.args.self.now.trail.now = omega arith in search rules
+pub offset_bounds-self-at : goal.offset_bounds-self-at
+offset_bounds-self-at g c = let h : c.args.self.now.free - 1 < length c.args.self.now.trail.now = omega arith in search rules
 
-pub invariant-of-self : goal.invariant-of-self
-invariant-of-self g c =
+pub invariant_of-self : goal.invariant_of-self
+invariant_of-self g c =
     let s = c.args.self.now in (
       simp length-set (omega arith),
       (

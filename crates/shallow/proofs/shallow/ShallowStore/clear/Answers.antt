@@ -2,8 +2,8 @@ use Rattle.std.proofs.Common.{refl, arith}
 use Rattle.shallow.proofs.Trails.{sound_none, unwound_none}
 use Rattle.shallow.proofs.shallow.ShallowStore.clear.Goals as goal
 
-pub invariant-of-self : goal.invariant-of-self
-invariant-of-self g c = (omega arith, (sound_none _ c.args.self.now.trail.now _ refl c.filled-self.ensures, tt))
+pub invariant_of-self : goal.invariant_of-self
+invariant_of-self g c = (omega arith, (sound_none _ c.args.self.now.trail.now _ refl c.filled-self.ensures, tt))
 
 pub returns : goal.returns
 returns g c = unwound_none _ c.args.self.now.trail.now _ _ refl c.filled-self-2.ensures

@@ -2,8 +2,8 @@ use Rattle.std.proofs.Common.{sym, ◌∙◌}
 use Rattle.shallow.proofs.Trails.{put_sound, put_cell, put_top}
 use Rattle.shallow.proofs.shallow.ShallowStore.put.Goals as goal
 
-pub invariant-of-self-in-Some : goal.invariant-of-self-in-Some
-invariant-of-self-in-Some g c =
+pub invariant_of-self-in-Some : goal.invariant_of-self-in-Some
+invariant_of-self-in-Some g c =
     let s = c.args.self.now in (
       s.within,
       (

@@ -5,8 +5,8 @@ use Rattle.shallow.proofs.shallow.ShallowStore.unbind.Goals as goal
 pub returns-then-self : goal.returns-then-self
 returns-then-self g c = let s = c.args.self.now in unbind_none s.cells.things s.trail.now s.free s.top.things s.within s.sound c.if-self.true
 
-pub invariant-of-self : goal.invariant-of-self
-invariant-of-self g c =
+pub invariant_of-self : goal.invariant_of-self
+invariant_of-self g c =
     let s = c.args.self.now in
     (omega arith, (unbind_sound s.cells.things s.trail.now s.free s.top.things s.within s.sound c.index-self-self.result (omega arith) _ c.set.ensures, tt))
 

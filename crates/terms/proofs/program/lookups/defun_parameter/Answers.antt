@@ -8,7 +8,7 @@ pub returns-in-Some : goal.returns-in-Some
 returns-in-Some c = sym (parameter_turn _ _ _ c.loop-definition-test.true _ c.loop-definition.invariant _ c.in-Some.ensures)
 
 pub loop-definition-preserved : goal.loop-definition-preserved
-loop-definition-preserved c = parameter_turn _ _ _ c.loop-definition-test.true _ c.loop-definition.invariant _ c.in-default.ensures
+loop-definition-preserved c = parameter_turn _ _ _ c.loop-definition-test.true _ c.loop-definition.invariant _ c.in_default.ensures
 
 pub returns : goal.returns
 returns c = sym (c.loop-definition.invariant ∙ ap (λ ds. defun_parameter ds c.args.body) (drop_all _ _ c.loop-definition-test.false))
