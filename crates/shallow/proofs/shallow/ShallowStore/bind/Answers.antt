@@ -19,14 +19,12 @@ offset_bounds-self-at g c = let h : c.args.self.now.free - 1 < length c.args.sel
 
 pub invariant_of-self : goal.invariant_of-self
 invariant_of-self g c =
-    let s = c.args.self.now in (
-      simp length-set (omega arith),
-      (
-        bind_sound s.cells.things s.trail.now s.free s.top.things s.within s.sound c.args.variable c.args.thing c.args.birthplace c.at-covered.result _
-            c.if-variable-gt31.false c.if-self-eq0.false s.cells.sized c.at-covered.ensures c.give.ensures,
-        tt,
-      ),
-    )
+    let s = c.args.self.now in
+    record {
+      within = simp length-set (omega arith);
+      sound = bind_sound s.cells.things s.trail.now s.free s.top.things s.within s.sound c.args.variable c.args.thing c.args.birthplace c.at-covered.result _
+            c.if-variable-gt31.false c.if-self-eq0.false s.cells.sized c.at-covered.ensures c.give.ensures;
+    }
 
 pub returns : goal.returns
 returns g c =

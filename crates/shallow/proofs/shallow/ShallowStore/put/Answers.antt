@@ -4,14 +4,12 @@ use Rattle.shallow.proofs.shallow.ShallowStore.put.Goals as goal
 
 pub invariant_of-self-in-Some : goal.invariant_of-self-in-Some
 invariant_of-self-in-Some g c =
-    let s = c.args.self.now in (
-      s.within,
-      (
-        put_sound s.cells.things s.trail.now s.free s.top.things s.within s.sound c.args.variable c.args.thing c.if-variable-gt31.false s.cells.sized
-            (c.in-Some.field-0-0, c.in-Some.birthplace) _ (sym c.at.ensures ∙ c.in-Some.is) c.give-in-Some.ensures,
-        tt,
-      ),
-    )
+    let s = c.args.self.now in
+    record {
+      within = s.within;
+      sound = put_sound s.cells.things s.trail.now s.free s.top.things s.within s.sound c.args.variable c.args.thing c.if-variable-gt31.false s.cells.sized
+            (c.in-Some.field-0-0, c.in-Some.birthplace) _ (sym c.at.ensures ∙ c.in-Some.is) c.give-in-Some.ensures;
+    }
 
 pub returns-in-Some : goal.returns-in-Some
 returns-in-Some g c =

@@ -8,7 +8,7 @@ returns-then-self g c = let s = c.args.self.now in unbind_none s.cells.things s.
 pub invariant_of-self : goal.invariant_of-self
 invariant_of-self g c =
     let s = c.args.self.now in
-    (omega arith, (unbind_sound s.cells.things s.trail.now s.free s.top.things s.within s.sound c.index-self-self.result (omega arith) _ c.set.ensures, tt))
+    record { within = omega arith; sound = unbind_sound s.cells.things s.trail.now s.free s.top.things s.within s.sound c.index-self-self.result (omega arith) _ c.set.ensures }
 
 pub returns : goal.returns
 returns g c =

@@ -22,13 +22,12 @@ returns-then-not-read_definitions c =
 
 pub invariant_of-result : goal.invariant_of-result
 invariant_of-result c =
-    let sized = sym c.if-not-sizes_right.ensures in (
-      (search rules, search rules, search rules, search rules, (sizes (length c.args.terms.now) c.args.symbols _ sized).4),
-      (
-        made_formed _ _ _ sized _ _ c.in_ok-read_terms.ensures _ _ c.read_definitions.ensures c.if-not-read_definitions.false,
-        (made_begun _ _ _ sized _ _ c.in_ok-read_terms.ensures _ _ c.read_definitions.ensures c.if-not-read_definitions.false, tt),
-      ),
-    )
+    let sized = sym c.if-not-sizes_right.ensures in
+    record {
+      places = (search rules, search rules, search rules, search rules, (sizes (length c.args.terms.now) c.args.symbols _ sized).4);
+      formed = made_formed _ _ _ sized _ _ c.in_ok-read_terms.ensures _ _ c.read_definitions.ensures c.if-not-read_definitions.false;
+      begun = made_begun _ _ _ sized _ _ c.in_ok-read_terms.ensures _ _ c.read_definitions.ensures c.if-not-read_definitions.false;
+    }
 
 pub returns : goal.returns
 returns c =
