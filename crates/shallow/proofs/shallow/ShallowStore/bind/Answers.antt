@@ -23,7 +23,7 @@ invariant_of-self g c =
     record {
       within = simp length-set (omega arith);
       sound = bind_sound s.cells.things s.trail.now s.free s.top.things s.within s.sound c.args.variable c.args.thing c.args.birthplace c.at-covered.result _
-            c.if-variable-gt31.false c.if-self-eq0.false s.cells.sized c.at-covered.ensures c.give.ensures;
+          c.if-variable-gt31.false c.if-self-eq0.false s.cells.sized c.at-covered.ensures c.give.ensures;
     }
 
 pub returns : goal.returns

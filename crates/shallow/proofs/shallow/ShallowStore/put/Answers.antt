@@ -8,7 +8,7 @@ invariant_of-self-in-Some g c =
     record {
       within = s.within;
       sound = put_sound s.cells.things s.trail.now s.free s.top.things s.within s.sound c.args.variable c.args.thing c.if-variable-gt31.false s.cells.sized
-            (c.in-Some.field-0-0, c.in-Some.birthplace) _ (sym c.at.ensures ∙ c.in-Some.is) c.give-in-Some.ensures;
+          (c.in-Some.field-0-0, c.in-Some.birthplace) _ (sym c.at.ensures ∙ c.in-Some.is) c.give-in-Some.ensures;
     }
 
 pub returns-in-Some : goal.returns-in-Some
