@@ -1,10 +1,10 @@
 -- The worked tables are in due form.
-use Rattle.std.proofs.Common.{◌≡◌, ℕ, ◌<◌, ◌≤◌, Bool, true, false, cond, not, ◌&&◌, ◌||◌, eqb, List, [], ◌∷◌, is_some, Some, None, Ok, Err, unwrap_or, sym, refl, ap, ◌∙◌, subst, inl, inr}
+use Rattle.std.proofs.Common.{◌≡◌, ℕ, true, false, not, ◌&&◌, eqb, List, [], ◌∷◌, is_some, None, Ok, Err, unwrap_or, sym, refl, ap, ◌∙◌, subst, inl, inr}
 use Rattle.std.proofs.lemmas.Bool.{and_parts, and_left, and_right, or_cases, cases_Bool, cond-true, both_ways, eqb-true, not_from_true}
 use Rattle.faults.specs.declared.fault.Fault.TheVariants.{WrongFact, MemoryLength}
 use Rattle.terms.specs.Script.{Script, last, term_at, binds, parameter}
 use Rattle.terms.specs.declared.term.Term.TheVariants.{Car, Cdr}
-use Rattle.facts.specs.Table.{holds, first_of}
+use Rattle.facts.specs.Table.{first_of}
 use Rattle.facts.specs.Numbering.{symbol_fact, number_fact, pair_fact, flow_set}
 use Rattle.facts.proofs.Firsts.{holds_parts, first_none}
 use Rattle.proposals.specs.Counting.{every, some}

@@ -1,18 +1,16 @@
 -- The rule for marks as it is tried, and as it is said: the same.
-use Rattle.std.proofs.Common.{◌≡◌, ℕ, zero, suc, ◌+◌, ◌<◌, ◌≤◌, Bool, true, false, cond, not, ◌&&◌, ◌||◌, eqb, ◌⊎◌, ◌↔◌, List, map, length, get_or, is_some, Some, None, Option, sym, refl, ap, ◌∙◌, subst, inl, inr, arith}
+use Rattle.std.proofs.Common.{◌≡◌, ℕ, zero, suc, ◌<◌, ◌≤◌, true, false, eqb, map, is_some, Some, None, Option, sym, refl, ap, ◌∙◌, inl, inr, arith}
 use Rattle.std.proofs.lemmas.List.{get_or_past}
 use Rattle.std.proofs.lemmas.List.FromFn.{length-map-range_with_len, get_or-map-range_with_len}
-use Rattle.std.proofs.lemmas.Bool.{and_parts, and_from, cases_lt, cases_Bool, cond-false, both_ways, eqb-true, eq-eqb, not-true, not_from_false}
+use Rattle.std.proofs.lemmas.Bool.{and_parts, and_from, cases_lt, cond-false, both_ways, eqb-true, eq-eqb, not-true, not_from_false}
 use Rattle.std.specs.List.{range_with_len}
 use Rattle.terms.specs.Script.{Script, last, term_at, term, binds, binds_variable, occurs}
 use Rattle.terms.specs.WellFormed.{WellFormed}
 use Rattle.terms.proofs.Nesting.{binder_label}
 use Rattle.facts.proofs.Firsts.{refuted}
-use Rattle.owners.specs.Owners.{owner, captured, owner_of}
-use Rattle.owners.specs.Laws.{Owned}
+use Rattle.owners.specs.Owners.{owner, captured}
 use Rattle.owners.proofs.Laws.{owned}
-use Rattle.proposals.specs.Counting.{every}
-use Rattle.proposals.specs.Tables.{Tables, contexts, entry, listed}
+use Rattle.proposals.specs.Tables.{Tables, entry, listed}
 use Rattle.proposals.specs.Laws.{DueForm}
 use Rattle.proposals.proofs.Counts.{every_from, every_at}
 use Rattle.clauses.specs.Marks.{Marked, keeps_own, sees, seen_by_own, marked_as, marked, mark_byte, marks_of, MarksExact, MarksTold, MarksBytes}

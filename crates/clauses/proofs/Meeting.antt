@@ -1,12 +1,12 @@
 -- Needs and parts as they are tried, and as they are said: the same.
-use Rattle.std.proofs.Common.{◌≡◌, ℕ, zero, suc, ◌+◌, ◌<◌, ◌≤◌, Bool, true, false, cond, not, ◌&&◌, ◌||◌, eqb, ltb, ◌⊎◌, List, [], ◌∷◌, ◌++◌, is_some, Some, None, Ok, Err, Option, sym, refl, ap, ◌∙◌, inl, inr, arith}
-use Rattle.std.proofs.lemmas.Bool.{and_parts, and_from, cases_eq, cases_lt, cases_Bool, cond-true, cond-false, both_ways, ltb-true, lt-ltb, le-ltb, eqb-true, eq-eqb, ne_eqb, cases_order}
+use Rattle.std.proofs.Common.{◌≡◌, ℕ, ◌<◌, true, false, not, ◌&&◌, ◌||◌, ltb, List, [], ◌∷◌, ◌++◌, is_some, Some, None, Ok, Err, Option, sym, refl, ap, ◌∙◌, inl, inr, arith}
+use Rattle.std.proofs.lemmas.Bool.{and_parts, and_from, cases_eq, cases_lt, cases_Bool, cond-true, cond-false, both_ways, ltb-true, lt-ltb, eqb-true, eq-eqb, ne_eqb}
 use Rattle.faults.specs.declared.fault.Fault.{Fault}
 use Rattle.terms.specs.Script.{Script}
-use Rattle.facts.specs.Table.{holds, first_of, Within}
+use Rattle.facts.specs.Table.{first_of}
 use Rattle.facts.proofs.Firsts.{holds_parts, none_first}
 use Rattle.proposals.specs.Counting.{every}
-use Rattle.proposals.specs.Tables.{Tables, in_set, contexts, entry, listed, same_rows, entry_with, extends, extension}
+use Rattle.proposals.specs.Tables.{Tables, in_set, contexts, entry, same_rows, entry_with, extends, extension}
 use Rattle.proposals.specs.Laws.{DueForm}
 use Rattle.proposals.proofs.Counts.{every_from, every_at}
 use Rattle.proposals.proofs.Memory.{entry_past}

@@ -1,21 +1,19 @@
 -- The clause of each kind of term as it is tried, and as it is said: the same.
-use Rattle.std.proofs.Common.{◌≡◌, ℕ, zero, suc, ◌+◌, ◌-◌, ◌*◌, ◌/◌, ◌%◌, ◌<◌, ◌≤◌, Bool, true, false, cond, ◌⊎◌, List, [], ◌∷◌, ◌++◌, is_some, Some, None, Option, sym, refl, ap, ◌∙◌, subst, inl, inr, arith}
-use Rattle.std.proofs.lemmas.Bool.{cases_eq, cases_Bool, cond-true, cond-false, both_ways}
+use Rattle.std.proofs.Common.{◌≡◌, ℕ, zero, suc, ◌+◌, ◌-◌, ◌<◌, ◌≤◌, Bool, true, false, cond, List, [], ◌∷◌, ◌++◌, is_some, Some, None, Option, sym, refl, ap, subst, inl, inr, arith}
+use Rattle.std.proofs.lemmas.Bool.{cases_eq}
 use Rattle.terms.specs.declared.term.Term.{Term}
 use Rattle.terms.specs.declared.term.Term.TheVariants.{Number, Quote, Lambda, Variable, Setq, Let, If, Apply, Cons, Car, Cdr, Add, Same}
 use Rattle.terms.specs.declared.term.Definition.{Definition}
 use Rattle.terms.specs.declared.term.Definition.TheVariants.{Input, Defvar, Defun}
-use Rattle.terms.specs.Script.{Script, last, term, binds, parameter, is_body, cons_operands}
+use Rattle.terms.specs.Script.{Script, term, parameter, cons_operands}
 use Rattle.terms.specs.WellFormed.{WellFormed}
 use Rattle.terms.proofs.Nesting.{binder_label, body_binds}
-use Rattle.facts.specs.Table.{holds, Within}
-use Rattle.facts.specs.Numbering.{number_fact, function_fact, pair_fact, flow_set, bound_set}
+use Rattle.facts.specs.Numbering.{pair_fact, flow_set}
 use Rattle.facts.proofs.Firsts.{holds_parts}
 use Rattle.proposals.specs.Tables.{Tables, in_set, contexts, extension}
 use Rattle.proposals.specs.Laws.{DueForm, Named, a_number, symbol, function, pair}
-use Rattle.clauses.specs.Clauses.{Need, lists, has, within, exists, Part, part, entered, enter, each_fact, called, calls, first_half, second_half, cons_of, context_of, halves, clause, definition_clause}
-use Rattle.clauses.specs.Acceptance.{Listed, Holds, Subset, Extends, Enters, Calls, FirstHalves, SecondHalves, SetqMet, LetMet, IfMet, ApplyMet, MakesMet, SameMet, CarMet, CdrMet, TermMet, DefvarMet, DefinitionMet, Met, AllMet}
-use Rattle.clauses.proofs.Counts.{none_some, some_same}
+use Rattle.clauses.specs.Clauses.{Part, entered, enter, each_fact, called, calls, first_half, second_half, cons_of, context_of, halves, clause, definition_clause}
+use Rattle.clauses.specs.Acceptance.{Holds, Subset, Enters, Calls, TermMet, DefinitionMet, AllMet}
 use Rattle.clauses.proofs.Meeting.{extension_row, row_extension, extension_is}
 
 -- ---- the parts of all the facts of a set

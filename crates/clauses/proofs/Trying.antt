@@ -1,8 +1,7 @@
 -- For code that tries parts: one list of parts after another, facts of a set one by one, one set within another.
-use Rattle.std.proofs.Common.{◌≡◌, ℕ, zero, suc, ◌+◌, ◌<◌, ◌≤◌, Bool, true, false, cond, ◌⊎◌, List, [], ◌∷◌, ◌++◌, Ok, Err, Decides, sym, refl, ap, ◌∙◌, subst, inl, inr, arith}
+use Rattle.std.proofs.Common.{◌≡◌, ℕ, zero, suc, ◌+◌, ◌<◌, ◌≤◌, Bool, true, false, cond, List, [], ◌∷◌, ◌++◌, Err, Decides, sym, refl, ap, ◌∙◌, inl, inr, arith}
 use Rattle.std.proofs.lemmas.Bool.{cases_eq, cases_Bool, cond-true, cond-false, both_ways}
 use Rattle.faults.specs.declared.fault.Fault.{Fault}
-use Rattle.facts.specs.Table.{holds, Within}
 use Rattle.proposals.specs.Tables.{Tables, in_set}
 use Rattle.proposals.specs.DueForm.{before}
 use Rattle.clauses.specs.Clauses.{Part, each_fact}

@@ -1,5 +1,5 @@
 -- The verdict accepts exactly what is accepted, and refuses exactly with the first part that is not met.
-use Rattle.std.proofs.Common.{◌≡◌, ℕ, zero, suc, ◌+◌, ◌<◌, ◌≤◌, Bool, true, false, cond, ◌&&◌, ltb, ◌⊎◌, ◌↔◌, List, [], ◌∷◌, ◌++◌, length, Ok, Err, Result, sym, refl, ap, ◌∙◌, subst, inl, inr, ⊎_elim, arith}
+use Rattle.std.proofs.Common.{◌≡◌, ℕ, suc, ◌+◌, ◌<◌, ◌≤◌, true, ltb, List, [], ◌∷◌, ◌++◌, length, Ok, Err, sym, refl, ap, ◌∙◌, subst, inl, inr, ⊎_elim, arith}
 use Rattle.std.proofs.lemmas.Bool.{and_parts, cases_Bool, cond-true, cond-false, both_ways, ltb-true}
 use Rattle.faults.specs.declared.fault.Fault.{Fault}
 use Rattle.faults.specs.declared.fault.Fault.TheVariants.{UnmetClause}
@@ -10,10 +10,10 @@ use Rattle.proposals.specs.Tables.{Tables, listed}
 use Rattle.proposals.specs.DueForm.{before, due_form}
 use Rattle.proposals.specs.Laws.{DueForm}
 use Rattle.proposals.proofs.Laws.{due_since, since_due}
-use Rattle.clauses.specs.Clauses.{Need, lists, Part, part, pair_clause, definition_clause, entry_clause}
-use Rattle.clauses.specs.Verdict.{tried, definitions_verdict, pair_verdict, in_turn, label_verdict, verdict, check_of}
+use Rattle.clauses.specs.Clauses.{pair_clause, definition_clause, entry_clause}
+use Rattle.clauses.specs.Verdict.{tried, definitions_verdict, pair_verdict, in_turn, label_verdict, verdict}
 use Rattle.clauses.specs.Acceptance.{Listed, PairMet, DefinitionsMet, Accepted, AllMet, FirstUnmet, ComesBefore, Refused, at_definition, at_entry, at_pair, CheckAccepts, CheckRefuses, VerdictAccepts, VerdictRefuses}
-use Rattle.clauses.proofs.Counts.{Verdict, ok_err, err_same, before_ok, before_err, before_first, before_next, turn_ok, ok_turn, Turned, turn_err, err_turn}
+use Rattle.clauses.proofs.Counts.{ok_err, err_same, before_ok, before_err, before_first, before_next, turn_ok, ok_turn, Turned, turn_err, err_turn}
 use Rattle.clauses.proofs.Meeting.{tried_ok, ok_tried, Tried, tried_err, err_tried}
 use Rattle.clauses.proofs.Terms.{term_out, term_in, definition_out, definition_in}
 

@@ -1,5 +1,5 @@
 -- The worked scripts, by computing.
-use Rattle.std.proofs.Common.{◌≡◌, ℕ, zero, suc, ◌+◌, ◌<◌, ◌≤◌, Bool, true, false, ◌&&◌, ◌||◌, eqb, ◌⊎◌, List, [], ◌∷◌, ◌++◌, Some, None, Ok, Err, Result, sym, refl, ap, ◌∙◌, subst, inl, inr, arith}
+use Rattle.std.proofs.Common.{◌≡◌, true, false, ◌∷◌, Ok, Err, Result, refl, ◌∙◌}
 use Rattle.faults.specs.declared.fault.Fault.{Fault}
 use Rattle.faults.specs.declared.fault.Fault.TheVariants.{UnmetClause}
 use Rattle.terms.specs.declared.term.Term.TheVariants.{Car, Cdr}
@@ -11,7 +11,7 @@ use Rattle.facts.specs.Table.{first_of}
 use Rattle.owners.specs.Owners.{least, some_of, owner, captured}
 use Rattle.proposals.specs.Counting.{every}
 use Rattle.proposals.specs.Tables.{Tables, contexts, entry, listed, extends, extension}
-use Rattle.proposals.specs.DueForm.{before, due_form}
+use Rattle.proposals.specs.DueForm.{due_form}
 use Rattle.proposals.proofs.Laws.{due_since}
 use Rattle.clauses.specs.Clauses.{each_fact}
 use Rattle.clauses.specs.Verdict.{is_within, in_turn, verdict, check_of}

@@ -1,15 +1,13 @@
 -- Open is refused by the rule of mark bytes, and names the first wrong one.
-use Rattle.std.proofs.Common.{◌≡◌, ℕ, zero, suc, ◌+◌, ◌<◌, ◌≤◌, Bool, true, false, cond, not, ◌&&◌, ◌||◌, eqb, ltb, ◌⊎◌, List, [], ◌∷◌, length, get_or, is_some, Some, None, Ok, Err, Option, Result, sym, refl, ap, ◌∙◌, subst, inl, inr, arith}
-use Rattle.std.proofs.lemmas.Bool.{cases_Bool, cases_eq, cases_lt, cond-true, cond-false, eqb-true, eqb-false, eq-eqb, ne_eqb, ltb-true, ltb-false, le-ltb, or_parts, or_cases, or_left, or_right, or_from, and_parts, and_from, and_left, and_right, not-true, not-false, not_from_true, not_from_false, both_ways, false≢true}
-use Rattle.faults.specs.declared.fault.Fault.{Fault}
-use Rattle.faults.specs.declared.fault.Fault.TheVariants.{WrongMark, StoreLimit, MemoryLength}
-use Rattle.terms.specs.Script.{Script, last, term, binds, occurs}
+use Rattle.std.proofs.Common.{◌≡◌, ℕ, zero, suc, ◌+◌, ◌<◌, ◌≤◌, Bool, true, false, cond, ◌&&◌, eqb, ltb, List, [], ◌∷◌, length, get_or, is_some, Some, None, Ok, Err, Option, sym, refl, ap, ◌∙◌, subst, inl, inr, arith}
+use Rattle.std.proofs.lemmas.Bool.{cases_Bool, cases_eq, cases_lt, cond-true, cond-false, eqb-true, eqb-false, eq-eqb, ltb-true, ltb-false, le-ltb, or_parts, or_cases, or_left, or_right, or_from, and_parts, and_from, and_left, and_right, not-true, not-false, not_from_true, not_from_false, both_ways, false≢true}
+use Rattle.faults.specs.declared.fault.Fault.TheVariants.{StoreLimit, MemoryLength}
+use Rattle.terms.specs.Script.{Script, binds, occurs}
 use Rattle.terms.specs.WellFormed.{WellFormed}
 use Rattle.stores.specs.Meaning.{Meaning, clear_of}
 use Rattle.owners.specs.Owners.{some_of, owner, captured}
 use Rattle.owners.proofs.Laws.{owned}
 use Rattle.values.specs.declared.value.Value.{Value}
-use Rattle.machine.specs.Machine.{State}
 use Rattle.machine.specs.Open.{owns_captured, wrong_mark, first_wrong, opened, opens_over, open_of}
 use Rattle.machine.specs.Laws.{Markable, RightMark, Begins, wrong_length, wrong_byte, small_store, begun, BeginsByRule}
 use Rattle.machine.proofs.Variables.{none_some, past_end}

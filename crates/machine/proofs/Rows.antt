@@ -1,5 +1,5 @@
 -- Steps and calls: what a turn keeps, a row keeps, over every list of calls.
-use Rattle.std.proofs.Common.{◌≡◌, ℕ, zero, suc, ◌+◌, ◌<◌, ◌≤◌, Bool, true, false, cond, eqb, ltb, ◌⊎◌, List, [], ◌∷◌, ◌++◌, length, Some, None, Ok, Err, Option, Result, sym, refl, ap, ◌∙◌, subst, inl, inr, arith}
+use Rattle.std.proofs.Common.{◌≡◌, ℕ, zero, suc, ◌<◌, ◌≤◌, Bool, true, false, cond, eqb, ltb, List, [], ◌∷◌, Ok, Err, Result, sym, refl, ap, ◌∙◌, subst, arith}
 use Rattle.std.proofs.lemmas.Bool.{ltb-true, ne_eqb, true≢false, false≢true}
 use Rattle.faults.specs.declared.fault.Fault.{Fault}
 use Rattle.faults.specs.declared.fault.Fault.TheVariants.{NoSuchVariable, RowUnderWay, NoRow, NotAnInput}
@@ -7,27 +7,24 @@ use Rattle.terms.specs.declared.term.Definition.{Definition}
 use Rattle.terms.specs.declared.term.Definition.TheVariants.{Input, Defvar, Defun}
 use Rattle.terms.specs.Script.{Script, last, is_input}
 use Rattle.terms.specs.WellFormed.{WellFormed}
-use Rattle.stores.specs.declared.binding.Binding.{Binding}
-use Rattle.stores.specs.Meaning.{Meaning, replaced, assigned, put_of, clear_of}
+use Rattle.stores.specs.Meaning.{Meaning, assigned, put_of}
 use Rattle.values.specs.declared.value.Value.{Value}
 use Rattle.values.specs.declared.value.Value.TheVariants as value
-use Rattle.values.specs.declared.frame.Frame.{Frame}
 use Rattle.values.specs.declared.call.Report.{Report}
-use Rattle.values.specs.declared.call.Report.TheVariants.{Plain, Read, Assigned, Ended, Stopped}
+use Rattle.values.specs.declared.call.Report.TheVariants.{Plain, Ended, Stopped}
 use Rattle.values.specs.declared.call.Call.{Call}
 use Rattle.values.specs.declared.call.Call.TheVariants.{Feed, Start, Step, Run}
 use Rattle.values.specs.declared.call.Answer.{Answer}
 use Rattle.values.specs.declared.call.Answer.TheVariants.{Done, Stepped, Ran}
-use Rattle.values.specs.declared.turn.Next.{Next}
-use Rattle.values.specs.declared.turn.Next.TheVariants.{Evaluate, Return}
+use Rattle.values.specs.declared.turn.Next.TheVariants.{Evaluate}
 use Rattle.values.specs.declared.turn.Turn.{Turn}
 use Rattle.values.specs.declared.turn.Turn.TheVariants.{Goes, Stops, Gives}
-use Rattle.machine.specs.Machine.{Outcome, Memory, with_store, turns, Phase, idle, ready, defining, running, State, none_left, unwound, over, reports, refuses, with_memory, carried_out, define_done, defines, in_definition, in_entry, goes_defining, goes_running, begins, steps_in, step_of}
-use Rattle.machine.specs.Calls.{under_way, answers, fed, feeds, starts, stepped, continues, runs, calls_in, call_of, Trace, trace}
+use Rattle.machine.specs.Machine.{Outcome, Memory, Phase, idle, ready, defining, running, State, over, reports, refuses, with_memory, define_done, defines, in_definition, in_entry, begins, steps_in, step_of}
+use Rattle.machine.specs.Calls.{under_way, answers, fed, feeds, starts, stepped, continues, runs, calls_in, call_of, trace}
 use Rattle.machine.specs.Open.{opened}
-use Rattle.machine.specs.Laws.{birthplaces, in_store, KeptIfMarked, RefusedSame, Orderly, AlwaysOrderly, NeverMore, OfHost, answered, during_row, without_row, no_input, AllOfHost, NeverDeclined}
-use Rattle.machine.proofs.Variables.{Low, AllLow, definitions_low, input_below}
-use Rattle.machine.proofs.Steady.{ok_err, births_length, births_replaced, Roomy, no_more, Quiet, Room, Steady, turns_steady}
+use Rattle.machine.specs.Laws.{RefusedSame, AlwaysOrderly, NeverMore, OfHost, answered, during_row, without_row, no_input, AllOfHost, NeverDeclined}
+use Rattle.machine.proofs.Variables.{AllLow, definitions_low, input_below}
+use Rattle.machine.proofs.Steady.{ok_err, births_replaced, no_more, Room, Steady, turns_steady}
 
 -- the variables that the definitions left put
 abbrev pub Lowly : Phase → Type 0

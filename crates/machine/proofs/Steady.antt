@@ -1,5 +1,5 @@
 -- One turn: frames and bindings stay together, a declined turn changes nothing, and none is declined where the store has room.
-use Rattle.std.proofs.Common.{◌≡◌, ℕ, zero, suc, ◌+◌, ◌<◌, ◌≤◌, Bool, true, false, cond, eqb, ltb, List, [], ◌∷◌, ◌++◌, length, Some, None, Ok, Err, Option, Result, sym, refl, ap, ◌∙◌, subst, arith, length-append}
+use Rattle.std.proofs.Common.{◌≡◌, ℕ, suc, ◌<◌, ◌≤◌, Bool, true, false, cond, eqb, ltb, List, [], ◌∷◌, ◌++◌, length, Some, None, Ok, Err, Option, Result, sym, refl, ap, ◌∙◌, subst, arith, length-append}
 use Rattle.std.proofs.lemmas.Bool.{eqb-true, ltb-true, both_ways}
 use Rattle.faults.specs.declared.fault.Fault.{Fault}
 use Rattle.faults.specs.declared.fault.Fault.TheVariants.{NoSuchVariable, StoreFull, StoreEmpty, VoidVariable, NotAFunction, NotAPair, NotANumber, NoFrameLeft, NoPairLeft}
@@ -9,7 +9,7 @@ use Rattle.terms.specs.Syntax.{symbol_of}
 use Rattle.terms.specs.Script.{Script, term, parameter}
 use Rattle.terms.specs.WellFormed.{WellFormed}
 use Rattle.stores.specs.declared.binding.Binding.{Binding}
-use Rattle.stores.specs.Meaning.{Meaning, count_of, bound, bind_of, unbound, unbind_of, seen, look_of, replaced, assigned, put_of}
+use Rattle.stores.specs.Meaning.{Meaning, count_of, bound, bind_of, unbound, seen, look_of, replaced, assigned}
 use Rattle.stores.specs.Laws.{birthplace_in}
 use Rattle.owners.specs.Owners.{owner}
 use Rattle.values.specs.declared.value.Value.{Value}
@@ -18,13 +18,13 @@ use Rattle.values.specs.declared.value.ConsCell.{ConsCell}
 use Rattle.values.specs.declared.frame.Frame.{Frame}
 use Rattle.values.specs.declared.frame.Frame.TheVariants.{Awaiting, Holding, Scope}
 use Rattle.values.specs.declared.call.Report.{Report}
-use Rattle.values.specs.declared.call.Report.TheVariants.{Plain, Read, Assigned, Ended, Stopped}
+use Rattle.values.specs.declared.call.Report.TheVariants.{Plain, Read, Assigned}
 use Rattle.values.specs.declared.turn.Next.{Next}
 use Rattle.values.specs.declared.turn.Next.TheVariants.{Evaluate, Return}
 use Rattle.values.specs.declared.turn.Turn.{Turn}
 use Rattle.values.specs.declared.turn.Turn.TheVariants.{Goes, Stops, Gives}
 use Rattle.machine.specs.Operations.{branch, truth, plus, same, cell_of, first_half, second_half, cell}
-use Rattle.machine.specs.Machine.{Outcome, Memory, with_frames, with_store, goes, stops, declines, yields, is_application, kept_at, keep_at, born_at, sight, reads, put_done, puts, assigns, enters, becomes, evaluates, bind_done, opens, unbind_done, closes, holds_first, takes_first, calls, applies, makes_pair, takes_second, newest, rest, returns, turns}
+use Rattle.machine.specs.Machine.{Outcome, Memory, with_frames, with_store, goes, stops, declines, yields, is_application, kept_at, keep_at, born_at, sight, reads, put_done, puts, assigns, enters, evaluates, bind_done, opens, unbind_done, closes, holds_first, takes_first, calls, applies, makes_pair, takes_second, newest, rest, returns, turns}
 use Rattle.machine.specs.Laws.{birthplaces, in_store, KeptIfMarked, has_operand, has_second, Waits}
 use Rattle.machine.proofs.Variables.{named_low, parameter_below}
 

@@ -1,39 +1,34 @@
 -- A run call is as many steps; a variable reads its newest binding; a scope takes its binding with it.
-use Rattle.std.proofs.Common.{◌≡◌, ℕ, zero, suc, ◌+◌, ◌<◌, ◌≤◌, Bool, true, false, cond, eqb, ltb, ◌⊎◌, List, [], ◌∷◌, ◌++◌, length, get_or, replicate, Some, None, Ok, Err, Option, Result, sym, refl, ap, ◌∙◌, subst, inl, inr, arith}
+use Rattle.std.proofs.Common.{◌≡◌, ℕ, zero, suc, ◌+◌, ◌≤◌, Bool, true, false, cond, eqb, ltb, ◌⊎◌, List, [], ◌∷◌, length, get_or, replicate, Some, None, Ok, Err, Option, Result, sym, refl, ap, ◌∙◌, subst, inl, inr, arith}
 use Rattle.std.proofs.lemmas.Bool.{cond-false, le-ltb, ne_eqb}
 use Rattle.faults.specs.declared.fault.Fault.{Fault}
-use Rattle.faults.specs.declared.fault.Fault.TheVariants.{VoidVariable}
-use Rattle.terms.specs.declared.term.Term.TheVariants.{Variable, Setq}
 use Rattle.terms.specs.declared.term.Definition.{Definition}
 use Rattle.terms.specs.declared.term.Definition.TheVariants.{Input, Defvar, Defun}
-use Rattle.terms.specs.Script.{Script, last, term}
+use Rattle.terms.specs.Script.{Script, last}
 use Rattle.stores.specs.declared.binding.Binding.{Binding}
 use Rattle.stores.specs.Meaning.{Meaning, unbound, unbind_of, seen, outermost, or_else, look_of, assigned, put_of}
 use Rattle.stores.specs.Meaning as bindings
-use Rattle.stores.specs.Laws.{Free, Newest, birthplace_in}
+use Rattle.stores.specs.Laws.{Free, birthplace_in}
 use Rattle.stores.proofs.Bindings.{newest_past}
 use Rattle.stores.proofs.Laws.{lawful, look_low}
 use Rattle.owners.specs.Owners.{owner}
 use Rattle.values.specs.declared.value.Value.{Value}
 use Rattle.values.specs.declared.frame.Frame.{Frame}
-use Rattle.values.specs.declared.frame.Frame.TheVariants.{Awaiting, Holding, Scope}
+use Rattle.values.specs.declared.frame.Frame.TheVariants.{Scope}
 use Rattle.values.specs.declared.call.Report.{Report}
-use Rattle.values.specs.declared.call.Report.TheVariants.{Plain, Read, Assigned, Ended, Stopped}
+use Rattle.values.specs.declared.call.Report.TheVariants.{Plain, Assigned, Stopped}
 use Rattle.values.specs.declared.call.Call.{Call}
-use Rattle.values.specs.declared.call.Call.TheVariants.{Feed, Start, Step, Run}
-use Rattle.values.specs.declared.call.Answer.{Answer}
-use Rattle.values.specs.declared.call.Answer.TheVariants.{Done, Stepped, Ran}
+use Rattle.values.specs.declared.call.Call.TheVariants.{Step, Run}
+use Rattle.values.specs.declared.call.Answer.TheVariants.{Stepped, Ran}
 use Rattle.values.specs.declared.turn.Next.{Next}
 use Rattle.values.specs.declared.turn.Next.TheVariants.{Evaluate, Return}
 use Rattle.values.specs.declared.turn.Turn.{Turn}
-use Rattle.values.specs.declared.turn.Turn.TheVariants.{Goes, Stops, Gives}
 use Rattle.machine.specs.Machine.{Outcome, Memory, with_frames, with_store, goes, stops, born_at, kept_at, keep_at, reads, put_done, puts, evaluates, takes_first, unbind_done, newest, rest, returns, turns, Phase, idle, ready, defining, running, State, refuses, in_definition, in_entry, steps_in, step_of}
-use Rattle.machine.specs.Calls.{under_way, answers, stepped, continues, runs, calls_in, call_of, tells, told, told_once, told_in, reports_of, Trace, before, trace}
+use Rattle.machine.specs.Calls.{under_way, answers, stepped, continues, runs, calls_in, tells, told, told_once, told_in, before, trace}
 use Rattle.machine.specs.Open.{opened}
-use Rattle.machine.specs.Laws.{birthplaces, in_store, next_in, ScopeLeft, KeptLeft, ScopesClose, Reads, ReadsNewest, Assigns, AssignsNewest, latest, as_steps, FirstDeclined, Counted, RunOfSteps, RunsAreSteps}
+use Rattle.machine.specs.Laws.{birthplaces, in_store, next_in, ScopeLeft, KeptLeft, ScopesClose, ReadsNewest, AssignsNewest, latest, as_steps, FirstDeclined, Counted, RunOfSteps, RunsAreSteps}
 use Rattle.machine.proofs.Variables.{none_some}
-use Rattle.machine.proofs.Steady.{ok_err}
-use Rattle.machine.proofs.Rows.{Sane, step_fares, trace_sane, opened_sane}
+use Rattle.machine.proofs.Rows.{step_fares, trace_sane, opened_sane}
 
 -- ---- a term is under way
 some_inj : {A : Type 0} {a b : A} → Some a ≡ Some b → a ≡ b

@@ -2,7 +2,6 @@
 use Rattle.std.specs.Prelude.{ℕ, zero, suc, Bool, true, false, cond, List, [], ◌∷◌, ◌++◌, Ok, Err, Result, ◌==◌}
 use Rattle.faults.specs.declared.fault.Fault.{Fault}
 use Rattle.faults.specs.declared.fault.Fault.TheVariants.{RowUnderWay, NoRow, NotAnInput}
-use Rattle.terms.specs.declared.term.Definition.{Definition}
 use Rattle.terms.specs.Script.{Script, is_input}
 use Rattle.stores.specs.Meaning.{Meaning, put_of}
 use Rattle.values.specs.declared.value.Value.{Value}

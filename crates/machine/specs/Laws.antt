@@ -1,5 +1,5 @@
 -- Laws of runs, in words that stand above the steps.
-use Rattle.std.specs.Prelude.{◌≡◌, ℕ, suc, ◌<◌, ◌≤◌, Bool, true, false, ◌⊎◌, List, [], ◌∷◌, ◌++◌, length, replicate, Some, None, Ok, Err, Option, Result, ◌≢◌, slice_index, slice_index_or, slice_set}
+use Rattle.std.specs.Prelude.{◌≡◌, ℕ, ◌<◌, ◌≤◌, Bool, true, false, ◌⊎◌, List, [], ◌∷◌, ◌++◌, length, replicate, Some, None, Ok, Err, Option, Result, ◌≢◌, slice_index, slice_index_or, slice_set}
 use Rattle.faults.specs.declared.fault.Fault.{Fault}
 use Rattle.faults.specs.declared.fault.Fault.TheVariants.{WrongMark, StoreLimit, RowUnderWay, NoRow, NotAnInput, MemoryLength, VoidVariable}
 use Rattle.terms.specs.declared.term.Term.{Term}
@@ -15,15 +15,15 @@ use Rattle.values.specs.declared.value.Value.{Value}
 use Rattle.values.specs.declared.frame.Frame.{Frame}
 use Rattle.values.specs.declared.frame.Frame.TheVariants.{Awaiting, Holding, Scope}
 use Rattle.values.specs.declared.call.Report.{Report}
-use Rattle.values.specs.declared.call.Report.TheVariants.{Plain, Read, Assigned, Ended, Stopped}
+use Rattle.values.specs.declared.call.Report.TheVariants.{Plain, Read, Assigned, Stopped}
 use Rattle.values.specs.declared.call.Call.{Call}
 use Rattle.values.specs.declared.call.Call.TheVariants.{Step, Run}
 use Rattle.values.specs.declared.call.Answer.{Answer}
 use Rattle.values.specs.declared.call.Answer.TheVariants.{Stepped, Ran}
 use Rattle.values.specs.declared.turn.Next.{Next}
 use Rattle.values.specs.declared.turn.Next.TheVariants.{Evaluate, Return}
-use Rattle.machine.specs.Machine.{Outcome, Memory, Phase, idle, ready, defining, running, State, step_of}
-use Rattle.machine.specs.Calls.{under_way, call_of, reports_of, Trace, trace}
+use Rattle.machine.specs.Machine.{Outcome, Phase, idle, ready, defining, running, State, step_of}
+use Rattle.machine.specs.Calls.{under_way, call_of, reports_of, trace}
 use Rattle.machine.specs.Open.{opened, open_of}
 
 -- A refused call changes nothing.

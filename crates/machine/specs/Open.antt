@@ -1,12 +1,12 @@
 -- How a run begins: the mark bytes that it takes, and what it leaves in the store.
-use Rattle.std.specs.Prelude.{ℕ, suc, Bool, true, false, cond, not, ◌&&◌, ◌||◌, List, [], ◌∷◌, length, is_some, Some, None, Ok, Err, Option, Result, ◌==◌, nat_lt, slice_index}
+use Rattle.std.specs.Prelude.{ℕ, suc, Bool, false, cond, not, ◌&&◌, ◌||◌, List, [], ◌∷◌, length, is_some, Some, None, Ok, Err, Option, Result, ◌==◌, nat_lt, slice_index}
 use Rattle.faults.specs.declared.fault.Fault.{Fault}
 use Rattle.faults.specs.declared.fault.Fault.TheVariants.{WrongMark, StoreLimit, MemoryLength}
 use Rattle.terms.specs.Script.{Script, binds}
 use Rattle.stores.specs.Meaning.{Meaning, clear_of}
 use Rattle.owners.specs.Owners.{some_of, owner, captured}
 use Rattle.values.specs.declared.value.Value.{Value}
-use Rattle.machine.specs.Machine.{Memory, Phase, idle, State, Outcome}
+use Rattle.machine.specs.Machine.{idle, State}
 
 -- the label's byte is 1
 abbrev pub marked : List ℕ → ℕ → Bool

@@ -1,11 +1,11 @@
 -- Bindings and rows: the row of a stack's context names the newest bindings; look and put keep values in their sets.
-use Rattle.std.proofs.Common.{◌≡◌, ℕ, zero, suc, ◌+◌, ◌<◌, ◌≤◌, Bool, true, false, cond, eqb, ◌⊎◌, List, [], ◌∷◌, ◌++◌, length, get_or, set, is_some, Some, None, Option, sym, refl, ap, ◌∙◌, subst, inl, inr, arith}
+use Rattle.std.proofs.Common.{◌≡◌, ℕ, zero, suc, ◌+◌, ◌≤◌, true, false, cond, eqb, List, [], ◌∷◌, ◌++◌, get_or, set, is_some, Some, None, Option, sym, refl, ap, ◌∙◌, subst, inl, inr, arith}
 use Rattle.std.proofs.lemmas.Bool.{eqb-true, eqb-false, eq-eqb, ne_eqb, cases_Bool, cond-true, cond-false}
 use Rattle.terms.specs.Script.{Script}
 use Rattle.stores.specs.declared.binding.Binding.{Binding}
 use Rattle.stores.specs.Meaning.{Meaning, newest, outermost, or_else, seen, replaced, assigned}
 use Rattle.stores.specs.Laws.{birthplace_in}
-use Rattle.facts.specs.Numbering.{flow_set, top_set, bound_set}
+use Rattle.facts.specs.Numbering.{top_set, bound_set}
 use Rattle.proposals.specs.Tables.{Tables, entry}
 use Rattle.values.specs.declared.value.Value.{Value}
 use Rattle.values.specs.declared.value.ConsCell.{ConsCell}
@@ -15,7 +15,7 @@ use Rattle.machine.proofs.Variables.{none_some}
 use Rattle.clauses.specs.Clauses.{binding_set}
 use Rattle.promise.specs.Lies.{Lies}
 use Rattle.promise.proofs.Basics.{some_inj, lies_grow}
-use Rattle.promise.proofs.Invariant.{shape, Stack, Typed, TopTyped, Holds}
+use Rattle.promise.proofs.Invariant.{shape, Stack, Typed, TopTyped}
 
 -- the birthplace of the newest binding of x, else 0
 abbrev pub birth : ℕ → List (Binding Value) → ℕ

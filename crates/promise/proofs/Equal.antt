@@ -1,8 +1,8 @@
 -- A turn with marks does what the turn without them does.
-use Rattle.std.proofs.Common.{◌≡◌, ℕ, zero, suc, ◌<◌, ◌≤◌, Bool, true, false, cond, eqb, ltb, ◌⊎◌, List, [], ◌∷◌, ◌++◌, length, get_or, set, is_some, Some, None, Ok, Err, Option, Result, sym, refl, ap, ◌∙◌, subst, inl, inr, arith}
+use Rattle.std.proofs.Common.{◌≡◌, ℕ, ◌<◌, ◌≤◌, Bool, true, false, cond, eqb, ltb, List, [], ◌∷◌, ◌++◌, length, get_or, set, is_some, Some, None, Ok, Err, Option, Result, sym, refl, ap, ◌∙◌, inl, inr, arith}
 use Rattle.std.proofs.lemmas.Bool.{cases_Bool, cond-true, cond-false, le-ltb, ne_eqb}
 use Rattle.faults.specs.declared.fault.Fault.{Fault}
-use Rattle.faults.specs.declared.fault.Fault.TheVariants.{NoSuchVariable, NotAFunction, NotAPair, NotANumber, NoFrameLeft, NoPairLeft}
+use Rattle.faults.specs.declared.fault.Fault.TheVariants.{NoSuchVariable, NotAPair, NotANumber, NoFrameLeft, NoPairLeft}
 use Rattle.terms.specs.declared.term.Term.{Term}
 use Rattle.terms.specs.declared.term.Term.TheVariants.{Number, Quote, Lambda, Variable, Setq, Let, If, Apply, Cons, Car, Cdr, Add, Same}
 use Rattle.terms.specs.Syntax.{symbol_of}
@@ -20,20 +20,19 @@ use Rattle.values.specs.declared.value.Value.TheVariants as value
 use Rattle.values.specs.declared.value.ConsCell.{ConsCell}
 use Rattle.values.specs.declared.frame.Frame.{Frame}
 use Rattle.values.specs.declared.frame.Frame.TheVariants.{Awaiting, Holding, Scope}
-use Rattle.values.specs.declared.call.Report.{Report}
-use Rattle.values.specs.declared.call.Report.TheVariants.{Plain, Read, Assigned, Ended, Stopped}
+use Rattle.values.specs.declared.call.Report.TheVariants.{Plain, Assigned}
 use Rattle.values.specs.declared.turn.Next.{Next}
 use Rattle.values.specs.declared.turn.Next.TheVariants.{Evaluate, Return}
 use Rattle.values.specs.declared.turn.Turn.{Turn}
-use Rattle.machine.specs.Operations.{plus, same, cell_of, first_half, second_half, cell}
-use Rattle.machine.specs.Machine.{Outcome, Memory, with_frames, with_store, goes, stops, yields, kept_at, keep_at, born_at, sight, reads, put_done, puts, assigns, enters, evaluates, bind_done, opens, unbind_done, closes, takes_first, calls, applies, makes_pair, takes_second, newest, rest, returns, turns}
+use Rattle.machine.specs.Operations.{plus, cell_of, first_half, second_half, cell}
+use Rattle.machine.specs.Machine.{Outcome, Memory, with_frames, with_store, goes, stops, yields, keep_at, born_at, sight, reads, put_done, puts, assigns, enters, evaluates, bind_done, opens, closes, takes_first, calls, applies, makes_pair, takes_second, newest, rest, returns, turns}
 use Rattle.machine.proofs.Variables.{none_some, named_low, parameter_below}
 use Rattle.machine.proofs.Steady.{Roomy, no_more, Room}
 use Rattle.clauses.specs.Acceptance.{Listed, Accepted}
 use Rattle.promise.proofs.Spans.{Up, Free}
 use Rattle.promise.proofs.Invariant.{unmarked, shape, Stack, Ready}
-use Rattle.promise.proofs.Bindings.{birth, seen_birth}
-use Rattle.promise.proofs.Veil.{kept_of, mark_frames, left_over, veiled, veil_out, left_few, mark_length, Alike, alike, frames_put, Walk, About, about_up, walk, Rightly, owner_about, meets_unmarked}
+use Rattle.promise.proofs.Bindings.{seen_birth}
+use Rattle.promise.proofs.Veil.{kept_of, mark_frames, left_over, veiled, veil_out, left_few, mark_length, alike, frames_put, Walk, about_up, walk, Rightly, owner_about, meets_unmarked}
 
 -- ---- the store takes what is asked of it
 bind_ok : (m : Meaning Value) (x : ℕ) (v : Value) (b : ℕ) → x < 32 → count_of m < m.limit → bind_of m x v b ≡ (Ok tt, bound m x v b)

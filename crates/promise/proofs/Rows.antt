@@ -1,5 +1,5 @@
 -- Rows and calls of a run without marks: everything that it reports lies inside the tables.
-use Rattle.std.proofs.Common.{◌≡◌, ℕ, zero, suc, Bool, true, false, cond, ◌||◌, eqb, ltb, ◌⊎◌, List, [], ◌∷◌, ◌++◌, get_or, replicate, Some, None, Ok, Err, Option, Result, sym, refl, ap, ◌∙◌, subst, subst₂, inl, inr, append_assoc}
+use Rattle.std.proofs.Common.{◌≡◌, ℕ, zero, suc, Bool, true, false, cond, eqb, ltb, List, [], ◌∷◌, ◌++◌, get_or, replicate, None, Ok, Err, Option, Result, sym, refl, ap, ◌∙◌, subst, subst₂, inl, inr, append_assoc}
 use Rattle.std.proofs.lemmas.Bool.{eqb-true, false≢true, true≢false, or_cases}
 use Rattle.faults.specs.declared.fault.Fault.{Fault}
 use Rattle.faults.specs.declared.fault.Fault.TheVariants.{NoSuchVariable, NotAnInput}
@@ -7,34 +7,30 @@ use Rattle.terms.specs.declared.term.Definition.{Definition}
 use Rattle.terms.specs.declared.term.Definition.TheVariants.{Input, Defvar, Defun}
 use Rattle.terms.specs.Script.{Script, last, input_among, is_input}
 use Rattle.terms.specs.WellFormed.{WellFormed}
-use Rattle.stores.specs.declared.binding.Binding.{Binding}
-use Rattle.stores.specs.Meaning.{Meaning, newest, replaced, assigned, put_of}
-use Rattle.stores.specs.Laws.{birthplace_in}
-use Rattle.facts.specs.Numbering.{number_fact, function_fact, flow_set, top_set}
+use Rattle.stores.specs.Meaning.{Meaning, replaced, assigned, put_of}
+use Rattle.facts.specs.Numbering.{number_fact, flow_set, top_set}
 use Rattle.proposals.specs.Tables.{Tables, in_set}
 use Rattle.values.specs.declared.value.Value.{Value}
 use Rattle.values.specs.declared.value.Value.TheVariants as value
 use Rattle.values.specs.declared.value.ConsCell.{ConsCell}
-use Rattle.values.specs.declared.frame.Frame.{Frame}
 use Rattle.values.specs.declared.call.Report.{Report}
-use Rattle.values.specs.declared.call.Report.TheVariants.{Plain, Read, Assigned, Ended, Stopped}
+use Rattle.values.specs.declared.call.Report.TheVariants.{Plain, Ended, Stopped}
 use Rattle.values.specs.declared.call.Call.{Call}
 use Rattle.values.specs.declared.call.Call.TheVariants.{Feed, Start, Step, Run}
-use Rattle.values.specs.declared.call.Answer.{Answer}
-use Rattle.values.specs.declared.call.Answer.TheVariants.{Done, Stepped, Ran}
+use Rattle.values.specs.declared.call.Answer.TheVariants.{Ran}
 use Rattle.values.specs.declared.turn.Next.{Next}
-use Rattle.values.specs.declared.turn.Next.TheVariants.{Evaluate, Return}
+use Rattle.values.specs.declared.turn.Next.TheVariants.{Evaluate}
 use Rattle.values.specs.declared.turn.Turn.{Turn}
 use Rattle.values.specs.declared.turn.Turn.TheVariants.{Goes, Stops, Gives}
-use Rattle.machine.specs.Machine.{Outcome, Memory, with_store, turns, Phase, idle, ready, defining, running, State, over, reports, refuses, with_memory, carried_out, define_done, defines, in_definition, in_entry, goes_defining, goes_running, begins, steps_in, step_of}
-use Rattle.machine.specs.Calls.{under_way, answers, fed, feeds, starts, stepped, continues, runs, calls_in, call_of, tells, told, told_once, told_in, reports_of, Trace, trace}
+use Rattle.machine.specs.Machine.{Memory, with_store, turns, Phase, idle, ready, defining, running, State, over, refuses, with_memory, define_done, defines, in_definition, in_entry, goes_defining, goes_running, begins, steps_in, step_of}
+use Rattle.machine.specs.Calls.{under_way, answers, fed, feeds, starts, stepped, continues, runs, calls_in, call_of, tells, told, told_once, told_in, reports_of, trace}
 use Rattle.machine.specs.Open.{opened}
 use Rattle.machine.proofs.Variables.{none_some}
 use Rattle.machine.proofs.Steady.{Quiet, turns_steady}
 use Rattle.clauses.specs.Clauses.{binding_set}
 use Rattle.clauses.specs.Acceptance.{Listed, Subset, DefinitionMet, DefinitionsMet, Accepted}
 use Rattle.promise.specs.Lies.{Lies, number, function, ReportInside, AllInside}
-use Rattle.promise.proofs.Spans.{Free, Among, defvar_free, entry_free}
+use Rattle.promise.proofs.Spans.{Free, Among, defvar_free}
 use Rattle.promise.proofs.Basics.{append_nil, lies_within, all_grow, all_append}
 use Rattle.promise.proofs.Invariant.{unmarked, shape, Stack, Held, Evaluates, Ready, ComesTo}
 use Rattle.promise.proofs.Bindings.{birth, set_top, put_typed, put_top_typed}

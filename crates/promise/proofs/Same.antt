@@ -1,5 +1,5 @@
 -- Calls with marks: the same answers and the same reports, over every list of calls.
-use Rattle.std.proofs.Common.{◌≡◌, ℕ, zero, suc, ◌≤◌, Bool, true, false, cond, eqb, ltb, List, [], ◌∷◌, ◌++◌, get_or, set, Some, None, Ok, Err, Option, Result, sym, refl, ap, ◌∙◌, subst, subst₂}
+use Rattle.std.proofs.Common.{◌≡◌, ℕ, zero, suc, ◌≤◌, Bool, true, false, cond, eqb, ltb, List, [], ◌∷◌, Ok, Err, Result, sym, refl, ap, ◌∙◌, subst, subst₂}
 use Rattle.faults.specs.declared.fault.Fault.{Fault}
 use Rattle.faults.specs.declared.fault.Fault.TheVariants.{NoSuchVariable, NotAnInput}
 use Rattle.terms.specs.declared.term.Definition.{Definition}
@@ -13,17 +13,16 @@ use Rattle.values.specs.declared.value.Value.{Value}
 use Rattle.values.specs.declared.value.Value.TheVariants as value
 use Rattle.values.specs.declared.frame.Frame.{Frame}
 use Rattle.values.specs.declared.call.Report.{Report}
-use Rattle.values.specs.declared.call.Report.TheVariants.{Plain, Read, Assigned, Ended, Stopped}
+use Rattle.values.specs.declared.call.Report.TheVariants.{Plain}
 use Rattle.values.specs.declared.call.Call.{Call}
 use Rattle.values.specs.declared.call.Call.TheVariants.{Feed, Start, Step, Run}
-use Rattle.values.specs.declared.call.Answer.{Answer}
-use Rattle.values.specs.declared.call.Answer.TheVariants.{Done, Stepped, Ran}
+use Rattle.values.specs.declared.call.Answer.TheVariants.{Done, Ran}
 use Rattle.values.specs.declared.turn.Next.{Next}
-use Rattle.values.specs.declared.turn.Next.TheVariants.{Evaluate, Return}
+use Rattle.values.specs.declared.turn.Next.TheVariants.{Evaluate}
 use Rattle.values.specs.declared.turn.Turn.{Turn}
 use Rattle.values.specs.declared.turn.Turn.TheVariants.{Goes, Stops, Gives}
 use Rattle.machine.specs.Machine.{Outcome, Memory, with_store, turns, Phase, idle, ready, defining, running, State, reports, refuses, carried_out, define_done, defines, in_definition, in_entry, goes_defining, goes_running, begins, steps_in, step_of}
-use Rattle.machine.specs.Calls.{under_way, answers, fed, feeds, starts, stepped, continues, runs, calls_in, call_of, tells, told, told_once, told_in, reports_of, Trace, before, trace}
+use Rattle.machine.specs.Calls.{under_way, answers, fed, feeds, stepped, continues, runs, calls_in, call_of, tells, told, told_once, told_in, reports_of, Trace, before, trace}
 use Rattle.machine.proofs.Steady.{Quiet, turns_steady}
 use Rattle.machine.proofs.Rows.{Sane, step_fares, call_called}
 use Rattle.clauses.specs.Acceptance.{Accepted}
@@ -32,7 +31,7 @@ use Rattle.promise.proofs.Invariant.{unmarked, Ready, ComesTo}
 use Rattle.promise.proofs.Turns.{turns_good}
 use Rattle.promise.proofs.Rows as rows
 use Rattle.promise.proofs.Rows.{Blank, Phased, Fine, fresh}
-use Rattle.promise.proofs.Veil.{mark_frames, left_over, veiled, Rightly}
+use Rattle.promise.proofs.Veil.{veiled, Rightly}
 use Rattle.promise.proofs.Equal.{turns_same}
 
 abbrev pub veil_state : (ℕ → Bool) → ℕ → State → State

@@ -1,16 +1,16 @@
 -- Which binders' spans hold what: operands, bodies and roots.
-use Rattle.std.proofs.Common.{◌≡◌, ℕ, zero, suc, ◌+◌, ◌<◌, ◌≤◌, Bool, true, false, cond, eqb, ◌⊎◌, List, [], ◌∷◌, ◌++◌, is_some, Some, None, Option, sym, refl, ap, ◌∙◌, subst, inl, inr, arith}
-use Rattle.std.proofs.lemmas.Bool.{eqb-true, eq-eqb, ne_eqb, false≢true, cases_Bool, cases_eq, cases_lt}
+use Rattle.std.proofs.Common.{◌≡◌, ℕ, zero, suc, ◌<◌, ◌≤◌, true, false, cond, eqb, ◌⊎◌, List, [], ◌∷◌, ◌++◌, is_some, Some, None, Option, sym, refl, ap, ◌∙◌, subst, inl, inr, arith}
+use Rattle.std.proofs.lemmas.Bool.{eqb-true, ne_eqb, false≢true, cases_Bool, cases_eq, cases_lt}
 use Rattle.terms.specs.declared.term.Term.{Term}
 use Rattle.terms.specs.declared.term.Term.TheVariants.{Number, Quote, Lambda, Variable, Setq, Let, If, Apply, Cons, Car, Cdr, Add, Same}
 use Rattle.terms.specs.declared.term.Definition.{Definition}
 use Rattle.terms.specs.declared.term.Definition.TheVariants.{Input, Defvar, Defun}
 use Rattle.terms.specs.Syntax.{children}
-use Rattle.terms.specs.Script.{Script, last, term, first, spans, bound_by, lambda_variable, or_else, defun_parameter, binds, parameter, is_body}
+use Rattle.terms.specs.Script.{Script, last, term, first, spans, bound_by, lambda_variable, or_else, defun_parameter, binds, parameter}
 use Rattle.terms.specs.Form.{roots}
 use Rattle.terms.specs.WellFormed.{Cover, WellFormed}
 use Rattle.terms.proofs.Firsts.{first_le}
-use Rattle.terms.proofs.Nesting.{spans_in, spans_out, nested, binder_label, body_binds}
+use Rattle.terms.proofs.Nesting.{spans_in, spans_out, nested, binder_label}
 use Rattle.machine.proofs.Variables.{none_some, past_end, at_zero}
 
 -- the spans of binders that hold l are those that hold m

@@ -1,12 +1,11 @@
 -- The promise.
-use Rattle.std.proofs.Common.{◌≡◌, ℕ, zero, suc, ◌+◌, ◌<◌, ◌≤◌, Bool, true, false, cond, eqb, ◌⊎◌, List, [], ◌∷◌, ◌++◌, length, get_or, replicate, Some, None, Option, sym, refl, ap, ◌∙◌, subst, inl, inr, arith}
+use Rattle.std.proofs.Common.{◌≡◌, ℕ, ◌≤◌, Bool, true, false, cond, eqb, List, [], ◌∷◌, length, get_or, replicate, Some, sym, refl, ap, ◌∙◌, subst, inl, inr, arith}
 use mathlib.Core.Path.{fun_ext}
 use lib.ListN.{length-replicate, get_or-replicate}
 use Rattle.std.proofs.lemmas.List.{get_or_past}
 use Rattle.std.proofs.lemmas.Bool.{cases_lt, false≢true}
-use Rattle.terms.specs.declared.term.Term.TheVariants.{Variable, Setq}
 use Rattle.terms.specs.declared.term.Definition.TheVariants.{Input, Defvar, Defun}
-use Rattle.terms.specs.Script.{Script, last, term, occurs}
+use Rattle.terms.specs.Script.{Script, last, occurs}
 use Rattle.terms.specs.WellFormed.{WellFormed}
 use Rattle.stores.specs.declared.binding.Binding.{Binding}
 use Rattle.stores.specs.Meaning.{Meaning}
@@ -18,8 +17,8 @@ use Rattle.values.specs.declared.frame.Frame.TheVariants.{Awaiting, Holding, Sco
 use Rattle.values.specs.declared.call.Call.{Call}
 use Rattle.values.specs.declared.turn.Next.{Next}
 use Rattle.values.specs.declared.turn.Next.TheVariants.{Evaluate, Return}
-use Rattle.machine.specs.Machine.{Memory, Phase, idle, ready, defining, running, State, kept_at}
-use Rattle.machine.specs.Calls.{Trace, trace}
+use Rattle.machine.specs.Machine.{Phase, idle, ready, defining, running, State, kept_at}
+use Rattle.machine.specs.Calls.{trace}
 use Rattle.machine.specs.Open.{marked, opened}
 use Rattle.machine.specs.Laws.{next_in, RightMark}
 use Rattle.machine.proofs.Opening.{opens_right}
@@ -31,14 +30,14 @@ use Rattle.clauses.specs.Marks as rule
 use Rattle.clauses.proofs.Verdicts.{check_accepts}
 use Rattle.clauses.proofs.Marking.{marks_exact, marks_bytes}
 use Rattle.promise.specs.Lies.{AllInside}
-use Rattle.promise.specs.Promise.{no_marks, run_trace, NoneMarked, Opens, Promised, Promise, PassedPromise, Found, Finds, AlwaysFinds}
-use Rattle.promise.proofs.Spans.{Up, Free, entry_free}
+use Rattle.promise.specs.Promise.{no_marks, run_trace, NoneMarked, Opens, Promise, PassedPromise, Finds, AlwaysFinds}
+use Rattle.promise.proofs.Spans.{Free, entry_free}
 use Rattle.promise.proofs.Basics.{some_inj}
 use Rattle.promise.proofs.Invariant.{unmarked, shape, Stack, Ready}
-use Rattle.promise.proofs.Rows.{Blank, Phased, Fine, fresh, trace_fares, opened_fine}
-use Rattle.promise.proofs.Veil.{mark_frames, left_over, veiled, Walk, Rightly}
+use Rattle.promise.proofs.Rows.{Phased, Fine, fresh, trace_fares, opened_fine}
+use Rattle.promise.proofs.Veil.{mark_frames, left_over, Rightly}
 use Rattle.promise.proofs.Equal.{owner_walk}
-use Rattle.promise.proofs.Same.{veil_state, veil_trace, Good, trace_good, trace_same}
+use Rattle.promise.proofs.Same.{veil_state, veil_trace, Good, trace_same}
 
 -- ---- mark bytes
 zeros : (n i : ℕ) → ◌≡◌ {A = ℕ} (get_or (replicate n 0) i 0) 0

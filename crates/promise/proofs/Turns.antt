@@ -1,35 +1,33 @@
 -- A turn of a run without marks keeps the invariant, and what it reports lies inside the tables.
-use Rattle.std.proofs.Common.{◌≡◌, ℕ, zero, suc, ◌<◌, ◌≤◌, Bool, true, false, cond, eqb, ltb, ◌⊎◌, List, [], ◌∷◌, ◌++◌, length, get_or, is_some, Some, None, Ok, Err, Option, Result, sym, refl, ap, ◌∙◌, subst, inl, inr}
+use Rattle.std.proofs.Common.{◌≡◌, ℕ, ◌<◌, ◌≤◌, Bool, true, false, cond, eqb, ltb, List, [], ◌∷◌, ◌++◌, length, is_some, Some, None, Ok, Err, Option, Result, sym, refl, ap, ◌∙◌, subst, inl, inr}
 use Rattle.faults.specs.declared.fault.Fault.{Fault}
-use Rattle.faults.specs.declared.fault.Fault.TheVariants.{NoSuchVariable, StoreFull, NotAFunction, NotAPair, NotANumber, NoFrameLeft, NoPairLeft}
+use Rattle.faults.specs.declared.fault.Fault.TheVariants.{NoSuchVariable, StoreFull, NotAPair, NotANumber, NoFrameLeft, NoPairLeft}
 use Rattle.terms.specs.declared.term.Term.{Term}
 use Rattle.terms.specs.declared.term.Term.TheVariants.{Number, Quote, Lambda, Variable, Setq, Let, If, Apply, Cons, Car, Cdr, Add, Same}
-use Rattle.terms.specs.Script.{Script, term, binds, parameter, is_body, occurs, cons_operands}
+use Rattle.terms.specs.Script.{Script, term, binds, parameter, occurs, cons_operands}
 use Rattle.terms.specs.WellFormed.{WellFormed}
 use Rattle.stores.specs.declared.binding.Binding.{Binding}
-use Rattle.stores.specs.Meaning.{Meaning, count_of, bound, bind_of, unbound, unbind_of, seen, look_of, replaced, assigned, put_of}
+use Rattle.stores.specs.Meaning.{Meaning, count_of, bound, unbound, seen, look_of, assigned}
 use Rattle.stores.specs.Laws.{birthplace_in}
-use Rattle.facts.specs.Numbering.{symbol_fact, number_fact, function_fact, pair_fact, flow_set, top_set, bound_set}
-use Rattle.proposals.specs.Tables.{Tables, in_set, contexts, entry, listed}
+use Rattle.facts.specs.Numbering.{symbol_fact, number_fact, function_fact, pair_fact, flow_set}
+use Rattle.proposals.specs.Tables.{Tables, in_set, contexts, entry}
 use Rattle.values.specs.declared.value.Value.{Value}
 use Rattle.values.specs.declared.value.Value.TheVariants as value
 use Rattle.values.specs.declared.value.ConsCell.{ConsCell}
 use Rattle.values.specs.declared.frame.Frame.{Frame}
 use Rattle.values.specs.declared.frame.Frame.TheVariants.{Awaiting, Holding, Scope}
-use Rattle.values.specs.declared.call.Report.{Report}
-use Rattle.values.specs.declared.call.Report.TheVariants.{Plain, Read, Assigned, Ended, Stopped}
+use Rattle.values.specs.declared.call.Report.TheVariants.{Plain, Assigned}
 use Rattle.values.specs.declared.turn.Next.{Next}
 use Rattle.values.specs.declared.turn.Next.TheVariants.{Evaluate, Return}
-use Rattle.values.specs.declared.turn.Turn.{Turn}
-use Rattle.machine.specs.Operations.{nil, truth, is_nil, branch, number_of, sum, plus, same, pair_at, cell_of, first_half, second_half, cell}
-use Rattle.machine.specs.Machine.{Outcome, Memory, with_frames, with_store, goes, stops, declines, yields, is_application, sight, reads, put_done, puts, assigns, enters, evaluates, bind_done, opens, unbind_done, closes, holds_first, takes_first, calls, applies, makes_pair, takes_second, newest, rest, returns, turns}
+use Rattle.machine.specs.Operations.{truth, is_nil, number_of, sum, same, cell_of, first_half, second_half, cell}
+use Rattle.machine.specs.Machine.{Memory, with_frames, with_store, goes, stops, yields, is_application, reads, put_done, puts, enters, evaluates, bind_done, opens, unbind_done, closes, holds_first, takes_first, calls, applies, makes_pair, takes_second, newest, rest, returns, turns}
 use Rattle.machine.proofs.Variables.{none_some}
 use Rattle.clauses.specs.Clauses.{binding_set, named_set}
-use Rattle.clauses.specs.Acceptance.{Listed, Subset, Extends, Enters, Accepted}
-use Rattle.promise.specs.Lies.{Lies, number, symbol, function, pair, Inside, ReportInside}
+use Rattle.clauses.specs.Acceptance.{Listed, Subset, Enters, Accepted}
+use Rattle.promise.specs.Lies.{Lies, number, symbol, function, pair}
 use Rattle.promise.proofs.Spans.{Up, Member, operands, operand_up, binder_bounds, parameter_binds, let_binds, let_up, let_down}
 use Rattle.promise.proofs.Basics.{some_inj, append_nil, pair_new, lies_within, lies_grow, clause_of, operand_one, operand_two, TwoOperands}
-use Rattle.promise.proofs.Invariant.{unmarked, shape, Awaits, Holds, Tail, Lexical, by_call, by_let, Scopes, Stack, Typed, TopTyped, Held, Evaluates, Returns, Ready, Went, Good}
+use Rattle.promise.proofs.Invariant.{unmarked, shape, Tail, Lexical, by_call, by_let, Stack, Typed, TopTyped, Held, Evaluates, Returns, Ready, Went, Good}
 use Rattle.promise.proofs.Bindings.{birth, seen_birth, shape_put, stack_end, row_names, stack_grow, typed_grow, seen_lies, put_typed, put_top_typed}
 
 pub tail_self : (p : Script) (t : Tables) (m k : ℕ) → Tail p t m m k

@@ -1,11 +1,11 @@
 -- The memory of a run with marks, from that of the run without: bindings of marked binders move into their scope frames.
-use Rattle.std.proofs.Common.{◌≡◌, ℕ, zero, suc, ◌<◌, ◌≤◌, Bool, true, false, cond, eqb, ◌⊎◌, List, [], ◌∷◌, ◌++◌, length, is_some, Some, None, Option, sym, refl, ap, ◌∙◌, subst, inl, inr, arith}
-use Rattle.std.proofs.lemmas.Bool.{cases_Bool, cases_eq, eqb-true, eqb-false, eq-eqb, ne_eqb, both_ways}
+use Rattle.std.proofs.Common.{◌≡◌, ℕ, suc, ◌≤◌, Bool, true, false, cond, eqb, List, [], ◌∷◌, length, is_some, Some, None, Option, sym, refl, ap, ◌∙◌, subst, inl, inr, arith}
+use Rattle.std.proofs.lemmas.Bool.{cases_Bool, cases_eq, eqb-false, eq-eqb, ne_eqb, both_ways}
 use Rattle.terms.specs.Script.{Script, term, spans, binds, is_body, occurs}
 use Rattle.terms.specs.WellFormed.{WellFormed}
 use Rattle.terms.proofs.Nesting.{spans_out, body_binds}
 use Rattle.stores.specs.declared.binding.Binding.{Binding}
-use Rattle.stores.specs.Meaning.{Meaning, newest, replaced}
+use Rattle.stores.specs.Meaning.{newest, replaced}
 use Rattle.stores.specs.Laws.{birthplace_in}
 use Rattle.owners.specs.Owners.{owner, captured}
 use Rattle.owners.proofs.Laws.{owned}
@@ -15,7 +15,7 @@ use Rattle.values.specs.declared.value.ConsCell.{ConsCell}
 use Rattle.values.specs.declared.frame.Frame.{Frame}
 use Rattle.values.specs.declared.frame.Frame.TheVariants.{Awaiting, Holding, Scope}
 use Rattle.values.specs.declared.turn.Turn.{Turn}
-use Rattle.machine.specs.Machine.{Outcome, Memory, is_application, kept_at, keep_at}
+use Rattle.machine.specs.Machine.{Outcome, Memory, kept_at, keep_at}
 use Rattle.clauses.specs.Acceptance.{Listed, Accepted}
 use Rattle.clauses.specs.Marks.{Marked}
 use Rattle.promise.proofs.Spans.{Up, Free, binder_bounds, self_held}

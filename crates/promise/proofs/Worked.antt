@@ -9,7 +9,7 @@ use Rattle.terms.specs.Examples.{dynamic}
 use Rattle.clauses.specs.Worked.{dynamic_tables}
 use Rattle.clauses.proofs.Worked as clauses
 use Rattle.machine.proofs.Worked as machine
-use Rattle.promise.specs.Lies.{number, function, Inside}
+use Rattle.promise.specs.Lies.{number, function}
 use Rattle.promise.specs.Promise.{no_marks}
 use Rattle.promise.specs.Worked.{Worked}
 use Rattle.promise.proofs.Theorem.{promise}

@@ -1,6 +1,5 @@
 -- When a value lies in a set, and when a report lies inside the tables.
 use Rattle.std.specs.Prelude.{◌≡◌, ℕ, ◌<◌, true, List, [], ◌∷◌, Some}
-use Rattle.faults.specs.declared.fault.Fault.{Fault}
 use Rattle.terms.specs.Script.{Script, term, occurs, cons_operands}
 use Rattle.facts.specs.Numbering.{symbol_fact, number_fact, function_fact, pair_fact, flow_set}
 use Rattle.proposals.specs.Tables.{Tables, in_set, contexts, entry, listed}

@@ -1,5 +1,5 @@
 -- What accepted tables and their marks promise of every run.
-use Rattle.std.specs.Prelude.{◌≡◌, ℕ, ◌≤◌, Bool, true, false, List, [], ◌∷◌, replicate, Some, None, Ok, Err}
+use Rattle.std.specs.Prelude.{◌≡◌, ℕ, ◌≤◌, true, false, List, [], ◌∷◌, replicate, Some, Ok}
 use Rattle.terms.specs.declared.term.Term.TheVariants.{Variable, Setq}
 use Rattle.terms.specs.Script.{Script, term}
 use Rattle.terms.specs.WellFormed.{WellFormed}
@@ -7,7 +7,6 @@ use Rattle.stores.specs.declared.binding.Binding.{Binding}
 use Rattle.stores.specs.Meaning.{Meaning, clear_of}
 use Rattle.owners.specs.Owners.{owner}
 use Rattle.proposals.specs.Tables.{Tables}
-use Rattle.proposals.specs.Laws.{DueForm}
 use Rattle.values.specs.declared.value.Value.{Value}
 use Rattle.values.specs.declared.frame.Frame.{Frame}
 use Rattle.values.specs.declared.frame.Frame.TheVariants.{Awaiting}
@@ -19,7 +18,7 @@ use Rattle.machine.specs.Open.{marked, opened, open_of}
 use Rattle.machine.specs.Laws.{next_in}
 use Rattle.clauses.specs.Verdict.{check_of}
 use Rattle.clauses.specs.Acceptance.{Accepted}
-use Rattle.clauses.specs.Marks.{Marked, marks_of}
+use Rattle.clauses.specs.Marks.{marks_of}
 use Rattle.promise.specs.Lies.{AllInside}
 
 -- mark bytes that mark nothing

@@ -1,10 +1,10 @@
 -- One script and its tables meet all that the promise asks, and what it then says of them is no empty word.
-use Rattle.std.specs.Prelude.{◌≡◌, ℕ, List, [], ◌∷◌, Ok, Err, Result}
+use Rattle.std.specs.Prelude.{◌≡◌, [], ◌∷◌, Ok}
 use Rattle.terms.specs.WellFormed.{WellFormed}
 use Rattle.stores.specs.Meaning.{new_store}
 use Rattle.values.specs.declared.value.Value.{Value}
 use Rattle.values.specs.declared.value.Value.TheVariants.{Number, Function}
-use Rattle.values.specs.declared.call.Report.TheVariants.{Plain, Read, Ended}
+use Rattle.values.specs.declared.call.Report.TheVariants.{Ended}
 use Rattle.values.specs.declared.call.Call.TheVariants.{Start, Run}
 use Rattle.values.specs.declared.call.Answer.TheVariants.{Done, Ran}
 use Rattle.clauses.specs.Acceptance.{Accepted}

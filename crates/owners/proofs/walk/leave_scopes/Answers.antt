@@ -4,7 +4,6 @@ use Rattle.terms.specs.Model.{model}
 use Rattle.owners.specs.Scoping.{innermost, left_at}
 use Rattle.owners.specs.Model.{open_scopes}
 use Rattle.owners.proofs.Turns.{left_stays, left_more, leaves_ok, leaves_held, leaves_fewer}
-use Rattle.owners.proofs.walk.leave_scopes.Given as given
 use Rattle.owners.proofs.walk.leave_scopes.Goals as goal
 
 pub loop-store-init : goal.loop-store-init

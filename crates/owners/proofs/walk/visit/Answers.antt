@@ -1,7 +1,6 @@
 use Rattle.std.proofs.Common.{◌≡◌, cond, set, sym, refl, ap, ◌∙◌}
 use Rattle.terms.specs.Model.{model}
 use Rattle.terms.proofs.Nesting.{variable_below, occurrence_below}
-use Rattle.owners.specs.Owners.{captured}
 use Rattle.owners.proofs.Visits.{room, roomy, bindings1, bindings2, bare2, stands_now, notes, both}
 use Rattle.owners.proofs.walk.visit.Goals as goal
 use Rattle.owners.proofs.walk.visit.Goals.{then-is_captured, else-is_captured}
