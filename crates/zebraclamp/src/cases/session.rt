@@ -3,7 +3,7 @@ ghost use Rattle.std.specs.Prelude.{◌≡◌, true};
 use crate::cases::answer::Answer;
 use crate::cases::command::Command;
 use crate::drafts::Draft;
-use crate::findings::{Inquiry, find};
+use crate::findings::Inquiry;
 use crate::lines::{Mistake, Words};
 use crate::scripts::Script;
 use crate::verdicts::{Question, judge};
@@ -95,11 +95,8 @@ impl Session {
     }
 
     fn owners(&self, heap: Global, how: Inquiry) -> Result<Reply<'static>, AllocError> {
-        match self.script.program() {
-            Some(program) => {
-                let findings = find(heap, program, how)?;
-                Ok(Reply::Answer(Answer::Owners(findings)))
-            }
+        match self.script.owners(heap, how)? {
+            Some(findings) => Ok(Reply::Answer(Answer::Owners(findings))),
             None => Ok(Reply::Mistake(Mistake::NoProgram)),
         }
     }

@@ -4,6 +4,7 @@ ghost use Rattle.std.specs.Result.{result_ok};
 ghost use Rattle.terms.specs.Form.{program_of};
 ghost use Rattle.terms.specs.Model.{model};
 
+use crate::findings::{Findings, Inquiry, find};
 use crate::scripts::said::Said;
 use crate::scripts::saying::Saying;
 use faults::Fault;
@@ -98,6 +99,16 @@ impl Script {
             symbols: self.symbols,
             definitions: self.definitions.len(),
         })
+    }
+
+    // none where no program is made
+    pub(crate) fn owners(&self, heap: Global, how: Inquiry) -> Result<Option<Findings>, AllocError>
+        ensures { IfOk result (λ found. is_some found ≡ is_some self.now.program) }
+    {
+        match &self.program {
+            Some(program) => Ok(Some(find(heap, program, how)?)),
+            None => Ok(None),
+        }
     }
 
     // the program made last; none before, and after a refusal
