@@ -15,7 +15,7 @@ pub struct ListTable<'a> {
 
 impl<'a> ListTable<'a> {
     // The table, and whether the numbers make one; refused numbers make a table with no facts.
-    // This is no `Result` of a table, since the borrow checker covers no enum that holds a reference and a ghost field.
+    // This is no `Result` of a table: the toolchain that it was written for covered no enum that holds a reference and a ghost field.
     pub fn over(numbers: &'a [u32]) -> (ListTable<'a>, Result<(), Fault>)
         ensures outcome { result.1 ≡ list_rule numbers.now }
         ensures table { MatchResult result.1 (λ _. result.0.numbers.now ≡ numbers.now) (λ _. result.0.numbers.now ≡ []) }

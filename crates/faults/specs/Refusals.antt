@@ -1,5 +1,5 @@
 -- what each fault states, and how it is printed
-use Rattle.std.specs.Prelude.{ℕ, Bool, nat_eq, List, [], ◌∷◌, ◌++◌, codes, decimal}
+use Rattle.std.specs.Prelude.{◌≡◌, Decides, ℕ, Bool, nat_eq, List, [], ◌∷◌, ◌++◌, codes, decimal}
 use Rattle.std.specs.Cmp.Lexicographic.{pointwise}
 use Rattle.std.specs.Ordering.{eq_of_both, on}
 use Prim.Native.String.{String}
@@ -48,6 +48,10 @@ values (p ∷ ps) = p.value ∷ values ps
 -- whether two faults are the same: one name, and the same numbers as places
 abbrev pub same_fault : Fault → Fault → Bool
 same_fault = eq_of_both (on (λ f. (stated f).name) (pointwise nat_eq)) (on (λ f. values (stated f).places) (pointwise nat_eq))
+
+-- That test tells exactly whether they are equal.
+abbrev pub SameDecides : Type 0
+SameDecides = (a b : Fault) → Decides (same_fault a b) (a ≡ b)
 
 abbrev pub text : Refusal → List ℕ
 text r = decimal r.number ++ (codes " " ++ (r.name ++ (codes " " ++ listed r.places)))

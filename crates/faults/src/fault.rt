@@ -1,7 +1,7 @@
 // Why a call is refused or a row stops: one case for each reason, with the places that the rules name for it.
 ghost use Rattle.std.specs.Prelude.{◌≡◌, Some, Decides};
 ghost use Rattle.faults.specs.Places.{named};
-ghost use Rattle.faults.specs.Refusals.{stated, text, values, same_fault};
+ghost use Rattle.faults.specs.Refusals.{stated, text, values, same_fault, SameDecides};
 ghost use Rattle.std.specs.Cmp.{and_equiv, partial_equiv_from_equiv};
 ghost use Rattle.std.specs.Cmp.Lexicographic.{on_texts_equal};
 
@@ -177,6 +177,7 @@ impl PartialEq for Fault {
     fn eq(&self, other: &Fault) -> bool
         ensures test { result ≡ same_fault self.now other.now }
         ensures equality { Decides result (self.now ≡ other.now) }
+        ensures same { SameDecides }
     {
         if self.name() != other.name() {
             return false;

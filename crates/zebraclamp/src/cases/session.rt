@@ -102,7 +102,7 @@ impl Session {
     }
 
     fn judge(&self, heap: Global, question: Question) -> Result<Reply<'static>, AllocError> {
-        match self.script.program() {
+        match self.script.made() {
             Some(program) => {
                 let verdict = judge(heap, program, &self.draft, question)?;
                 Ok(Reply::Answer(Answer::Verdict(verdict)))

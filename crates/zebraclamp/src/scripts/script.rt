@@ -81,7 +81,7 @@ impl Script {
     }
 
     // makes the program of what was said; a refusal leaves none
-    fn make(&mut self) -> Result<Sizes, Fault>
+    fn program(&mut self) -> Result<Sizes, Fault>
         ensures makes { is_some self.new.program ≡ is_ok result }
         ensures which { MatchResult result (λ _. option_map model self.new.program ≡ result_ok (program_of self.old.terms.items self.old.symbols self.old.definitions.items)) (λ e. Err e ≡ program_of self.old.terms.items self.old.symbols self.old.definitions.items) }
         ensures sizes { IfOk result (λ s. (s.terms ≡ vec_len self.old.terms) × (s.symbols ≡ self.old.symbols) × (s.definitions ≡ vec_len self.old.definitions)) }
@@ -112,7 +112,7 @@ impl Script {
     }
 
     // the program made last; none before, and after a refusal
-    pub(crate) fn program(&self) -> Option<&Program> {
+    pub(crate) fn made(&self) -> Option<&Program> {
         self.program.as_ref()
     }
 
@@ -130,7 +130,7 @@ impl Script {
                 let number = self.definition(definition)?;
                 Ok(Said::Definition { number, definition })
             }
-            Saying::Program => Ok(Said::Program(self.make())),
+            Saying::Program => Ok(Said::Program(self.program())),
         }
     }
 }
