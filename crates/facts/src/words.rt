@@ -20,7 +20,7 @@ impl<'a> WordTable<'a> {
         Ok(WordTable { words })
     }
 
-    // 0 past the last word: that there are enough is not known here, since no `Result` held a reference and a ghost field in the toolchain that this was written for
+    // 0 past the last word: the table keeps no invariant of its length
     fn word(&self, at: usize) -> u64
         ensures { result ≡ slice_index self.now.words.now at }
     {

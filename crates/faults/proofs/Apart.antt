@@ -5,7 +5,7 @@ use Rattle.std.specs.Prelude.{Decides, nat_eq}
 use Rattle.std.specs.Cmp.Lexicographic.{same_text, pointwise}
 use Rattle.std.specs.Cmp.{both_ways}
 use Rattle.std.specs.Cmp.Derive.{both_true}
-use Rattle.std.proofs.lemmas.Bool.{and_parts}
+use Rattle.std.proofs.lemmas.Bool.{and_parts, not-true, not-false}
 use Rattle.std.proofs.Math.Bool.{and-true}
 use Rattle.std.proofs.lemmas.Cmp.{nat_list_eq_equiv}
 use Rattle.faults.specs.Places.{Place, named}
@@ -86,7 +86,7 @@ back_stated (NotANumber l) = refl
 back_stated (NoFrameLeft l) = refl
 back_stated (NoPairLeft l) = refl
 
-pub stated_apart : (a b : Fault) → (stated a).name ≡ (stated b).name → values (stated a).places ≡ values (stated b).places → a ≡ b
+stated_apart : (a b : Fault) → (stated a).name ≡ (stated b).name → values (stated a).places ≡ values (stated b).places → a ≡ b
 stated_apart a b p q = sym (back_stated a) ∙ (λ i. back (p i) (q i)) ∙ back_stated b
 
 -- the test tells whether two faults are equal
@@ -98,39 +98,37 @@ same_decides a b = (
 
 -- ---- places
 
-abbrev key : Places → List ℕ
-key Nowhere = 0 ∷ []
-key (Index i) = 1 ∷ i ∷ []
-key (Row r) = 2 ∷ r ∷ []
-key (Label l) = 3 ∷ l ∷ []
-key (Fact s n) = 4 ∷ s ∷ n ∷ []
-key (Clause d l k p) = 5 ∷ d ∷ l ∷ k ∷ p ∷ []
-
-abbrev of_kind : ℕ → List ℕ → Places
-of_kind zero ns = Nowhere
-of_kind (suc zero) ns = Index (value 0 ns)
-of_kind (suc (suc zero)) ns = Row (value 0 ns)
-of_kind (suc (suc (suc zero))) ns = Label (value 0 ns)
-of_kind (suc (suc (suc (suc zero)))) ns = Fact (value 0 ns) (value 1 ns)
-of_kind (suc (suc (suc (suc (suc k))))) ns = Clause (value 0 ns) (value 1 ns) (value 2 ns) (value 3 ns)
+-- the kind of places, as the first name tells it, and then their numbers
+abbrev key : List Place → List ℕ
+key [] = []
+key (p ∷ ps) = packed p.name ∷ values (p ∷ ps)
 
 abbrev keyed : List ℕ → Places
 keyed [] = Nowhere
-keyed (k ∷ ns) = of_kind k ns
+keyed (k ∷ ns) =
+    cond (eqb k (packed (codes "index"))) (Index (value 0 ns)) (
+    cond (eqb k (packed (codes "row"))) (Row (value 0 ns)) (
+    cond (eqb k (packed (codes "label"))) (Label (value 0 ns)) (
+    cond (eqb k (packed (codes "set"))) (Fact (value 0 ns) (value 1 ns)) (
+    cond (eqb k (packed (codes "definition"))) (Clause (value 0 ns) (value 1 ns) (value 2 ns) (value 3 ns)) Nowhere))))
 
-keyed_key : (p : Places) → keyed (key p) ≡ p
-keyed_key Nowhere = refl
-keyed_key (Index i) = refl
-keyed_key (Row r) = refl
-keyed_key (Label l) = refl
-keyed_key (Fact s n) = refl
-keyed_key (Clause d l k p) = refl
+keyed_named : (p : Places) → keyed (key (named p)) ≡ p
+keyed_named Nowhere = refl
+keyed_named (Index i) = refl
+keyed_named (Row r) = refl
+keyed_named (Label l) = refl
+keyed_named (Fact s n) = refl
+keyed_named (Clause d l k p) = refl
+
+-- no two places have one key
+key_apart : (p q : Places) → key (named p) ≡ key (named q) → p ≡ q
+key_apart p q e = sym (keyed_named p) ∙ ap keyed e ∙ keyed_named q
 
 -- what the derived `==` computes
 abbrev same_places : Places → Places → Bool
 same_places = derived.ghosts.eq
 
-places_test : (p q : Places) → same_places p q ≡ pointwise nat_eq (key p) (key q)
+places_test : (p q : Places) → same_places p q ≡ pointwise nat_eq (key (named p)) (key (named q))
 places_test Nowhere Nowhere = refl
 places_test Nowhere (Index b) = refl
 places_test Nowhere (Row b) = refl
@@ -168,56 +166,24 @@ places_test (Clause a0 a1 a2 a3) (Label b) = refl
 places_test (Clause a0 a1 a2 a3) (Fact b0 b1) = refl
 places_test (Clause a0 a1 a2 a3) (Clause b0 b1 b2 b3) = λ i. eqb a0 b0 && (eqb a1 b1 && (eqb a2 b2 && sym (and-true (eqb a3 b3)) i))
 
-pub places_decides : (p q : Places) → Decides (same_places p q) (p ≡ q)
+places_decides : (p q : Places) → Decides (same_places p q) (p ≡ q)
 places_decides p q = (
-  λ e. sym (keyed_key p) ∙ ap keyed (same_text _ _ (sym (sym (places_test p q) ∙ e))) ∙ keyed_key q,
-  λ e. subst (λ r. same_places p r ≡ true) e (places_test p p ∙ nat_list_eq_equiv.refl (key p)),
+  λ e. key_apart p q (same_text _ _ (sym (sym (places_test p q) ∙ e))),
+  λ e. subst (λ r. same_places p r ≡ true) e (places_test p p ∙ nat_list_eq_equiv.refl (key (named p))),
 )
-
--- the number of a kind of places is told by the first name
-abbrev kind : List Place → ℕ
-kind [] = 0
-kind (p ∷ ps) = packed p.name
-
-abbrev of_named : ℕ → List Place → Places
-of_named k ps =
-    cond (eqb k (packed (codes "index"))) (Index (value 0 (values ps))) (
-    cond (eqb k (packed (codes "row"))) (Row (value 0 (values ps))) (
-    cond (eqb k (packed (codes "label"))) (Label (value 0 (values ps))) (
-    cond (eqb k (packed (codes "set"))) (Fact (value 0 (values ps)) (value 1 (values ps))) (
-    cond (eqb k (packed (codes "definition"))) (Clause (value 0 (values ps)) (value 1 (values ps)) (value 2 (values ps)) (value 3 (values ps))) Nowhere))))
-
-back_named : (p : Places) → of_named (kind (named p)) (named p) ≡ p
-back_named Nowhere = refl
-back_named (Index i) = refl
-back_named (Row r) = refl
-back_named (Label l) = refl
-back_named (Fact s n) = refl
-back_named (Clause d l k p) = refl
-
-named_apart : (p q : Places) → named p ≡ named q → p ≡ q
-named_apart p q e = sym (back_named p) ∙ ap (λ ps. of_named (kind ps) ps) e ∙ back_named q
 
 -- what the comparison of names and places tells
 pub same_by : (a b : Fault) (p q : Places) → named p ≡ (stated a).places → named q ≡ (stated b).places → (stated a).name ≡ (stated b).name → same_places p q ≡ same_fault a b
 same_by a b p q n m e = both_ways _ _
     (λ s. both_true (subst (λ k. pointwise nat_eq (stated a).name k ≡ true) e (nat_list_eq_equiv.refl (stated a).name))
     (subst (λ k. pointwise nat_eq (values (stated a).places) k ≡ true) (ap values (sym n ∙ ap named ((places_decides p q).0 s) ∙ m)) (nat_list_eq_equiv.refl (values (stated a).places))))
-    (λ s. (places_decides p q).1 (named_apart p q (n ∙ ap (λ f. (stated f).places) ((same_decides a b).0 s) ∙ sym m)))
-
-was_false : (x : Bool) → not x ≡ true → x ≡ false
-was_false true e = sym e
-was_false false e = refl
-
-was_true : (x : Bool) → not x ≡ false → x ≡ true
-was_true true e = refl
-was_true false e = sym e
+    (λ s. (places_decides p q).1 (key_apart p q (ap key (n ∙ ap (λ f. (stated f).places) ((same_decides a b).0 s) ∙ sym m))))
 
 -- the names k and m are compared first
 module _ (a b : Fault) (k m : List ℕ) (r : Bool) (of_a : k ≡ (stated a).name) (of_b : m ≡ (stated b).name) (e : r ≡ not (pointwise nat_eq k m)) where
   pub names_differ : r ≡ true → false ≡ same_fault a b
   names_differ t = sym (ap (λ x. x && pointwise nat_eq (values (stated a).places) (values (stated b).places))
-      ((λ i. pointwise nat_eq (sym of_a i) (sym of_b i)) ∙ was_false (pointwise nat_eq k m) (sym e ∙ t)))
+      ((λ i. pointwise nat_eq (sym of_a i) (sym of_b i)) ∙ not-true (pointwise nat_eq k m) (sym e ∙ t)))
 
   pub names_agree : r ≡ false → (stated a).name ≡ (stated b).name
-  names_agree f = sym of_a ∙ same_text k m (sym (was_true (pointwise nat_eq k m) (sym e ∙ f))) ∙ of_b
+  names_agree f = sym of_a ∙ same_text k m (sym (not-false (pointwise nat_eq k m) (sym e ∙ f))) ∙ of_b

@@ -1,6 +1,7 @@
 -- what each fault states, and how it is printed
 use Rattle.std.specs.Prelude.{◌≡◌, Decides, ℕ, Bool, nat_eq, List, [], ◌∷◌, ◌++◌, codes, decimal}
-use Rattle.std.specs.Cmp.Lexicographic.{pointwise}
+use Rattle.std.specs.Cmp.{IsEquivalence, and_equiv}
+use Rattle.std.specs.Cmp.Lexicographic.{pointwise, on_texts_equal}
 use Rattle.std.specs.Ordering.{eq_of_both, on}
 use Prim.Native.String.{String}
 use Rattle.faults.specs.Places.{Place, at, listed}
@@ -41,6 +42,7 @@ stated (NotANumber l) = refusal 43 "not-a-number" (at "label" l ∷ [])
 stated (NoFrameLeft l) = refusal 44 "no-frame-left" (at "label" l ∷ [])
 stated (NoPairLeft l) = refusal 45 "no-pair-left" (at "label" l ∷ [])
 
+-- the numbers of the places
 abbrev pub values : List Place → List ℕ
 values [] = []
 values (p ∷ ps) = p.value ∷ values ps
@@ -48,6 +50,9 @@ values (p ∷ ps) = p.value ∷ values ps
 -- whether two faults are the same: one name, and the same numbers as places
 abbrev pub same_fault : Fault → Fault → Bool
 same_fault = eq_of_both (on (λ f. (stated f).name) (pointwise nat_eq)) (on (λ f. values (stated f).places) (pointwise nat_eq))
+
+pub same_fault_equiv : IsEquivalence same_fault
+same_fault_equiv = and_equiv (on_texts_equal (λ f. (stated f).name)) (on_texts_equal (λ f. values (stated f).places))
 
 -- That test tells exactly whether they are equal.
 abbrev pub SameDecides : Type 0

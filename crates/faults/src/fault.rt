@@ -1,9 +1,8 @@
 // Why a call is refused or a row stops: one case for each reason, with the places that the rules name for it.
 ghost use Rattle.std.specs.Prelude.{◌≡◌, Some, Decides};
 ghost use Rattle.faults.specs.Places.{named};
-ghost use Rattle.faults.specs.Refusals.{stated, text, values, same_fault, SameDecides};
-ghost use Rattle.std.specs.Cmp.{and_equiv, partial_equiv_from_equiv};
-ghost use Rattle.std.specs.Cmp.Lexicographic.{on_texts_equal};
+ghost use Rattle.faults.specs.Refusals.{stated, text, same_fault, same_fault_equiv, SameDecides};
+ghost use Rattle.std.specs.Cmp.{partial_equiv_from_equiv};
 
 use crate::places::Places;
 use std::fmt;
@@ -172,7 +171,7 @@ impl Fault {
 impl PartialEq for Fault {
     ghost eq = { same_fault };
 
-    ghost laws = { partial_equiv_from_equiv (and_equiv (on_texts_equal (λ f. (stated f).name)) (on_texts_equal (λ f. values (stated f).places))) };
+    ghost laws = { partial_equiv_from_equiv same_fault_equiv };
 
     fn eq(&self, other: &Fault) -> bool
         ensures test { result ≡ same_fault self.now other.now }
@@ -187,7 +186,7 @@ impl PartialEq for Fault {
 }
 
 impl Eq for Fault {
-    ghost laws = { and_equiv (on_texts_equal (λ f. (stated f).name)) (on_texts_equal (λ f. values (stated f).places)) };
+    ghost laws = { same_fault_equiv };
 }
 
 impl fmt::Display for Fault {
