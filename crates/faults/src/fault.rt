@@ -167,7 +167,7 @@ impl Fault {
     }
 }
 
-// Written out: no two cases share a name, so names and places tell faults apart.
+// Written out: a derived `==` promises its own test alone, and not that it decides equality. No two cases share a name.
 impl PartialEq for Fault {
     ghost eq = { same_fault };
 
@@ -178,10 +178,7 @@ impl PartialEq for Fault {
         ensures equality { Decides result (self.now ≡ other.now) }
         ensures same { SameDecides }
     {
-        if self.name() != other.name() {
-            return false;
-        }
-        self.places() == other.places()
+        self.name() == other.name() && self.places() == other.places()
     }
 }
 
