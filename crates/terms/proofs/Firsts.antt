@@ -1,7 +1,9 @@
 -- First labels: that of the first child, or the term's own.
-use Rattle.std.proofs.Common.{◌≡◌, ℕ, zero, suc, ◌<◌, ◌≤◌, cond, ◌&&◌, ltb, leb, List, [], ◌∷◌, length, sym, refl, ◌∙◌, inl, inr, arith}
+use Rattle.std.proofs.Common.{◌≡◌, ℕ, zero, suc, ◌<◌, ◌≤◌, cond, ◌&&◌, ltb, leb, List, [], ◌∷◌, ◌++◌, length, sym, refl, ap, ◌∙◌, inl, inr, arith}
+use Rattle.std.proofs.lemmas.List.{get_or_append_left, length-append}
 use Rattle.std.proofs.lemmas.Bool.{cond-true, cond-false, cases_lt, lt-ltb, le-ltb, le-leb, lt-leb, and_from, and_right}
 use Rattle.terms.specs.declared.term.Term.{Term}
+use Rattle.terms.specs.declared.term.Term.TheVariants.{Quote}
 use Rattle.terms.specs.Syntax.{children}
 use Rattle.terms.specs.Script.{term_at, first_in, first_at}
 
@@ -76,3 +78,19 @@ module _ (ts : List Term) where
       below : (c : ℕ) → c < suc n → first_in ts n c ≡ first_at ts c
       below zero h = fuel n 0 0 (omega arith) (omega arith) ∙ sym first_zero
       below (suc c) h = fuel n (suc c) (suc c) (omega arith) (omega arith) ∙ sym (inside (suc c) (omega arith) (omega arith))
+
+-- first labels do not depend on the terms above
+module _ (ts us : List Term) where
+  under : (k l : ℕ) → l ≤ length ts → first_in (ts ++ us) k l ≡ first_in ts k l
+  unfolding term_at
+  under zero l h = refl
+  under (suc k) l h =
+      in_step (ts ++ us) k l
+      ∙ step_same (first_in (ts ++ us) k) (first_in ts k) l (children (term_at (ts ++ us) l)) (λ c lt. under k c (omega arith))
+      ∙ ap (λ t. step (first_in ts k) l (children t)) (get_or_append_left (Quote 0 ∷ ts) us (Quote 0) l (omega arith))
+      ∙ sym (in_step ts k l)
+
+  pub first_under : (l : ℕ) → l ≤ length ts → first_at (ts ++ us) l ≡ first_at ts l
+  first_under zero h = first_zero (ts ++ us) ∙ sym (first_zero ts)
+  first_under (suc l) h =
+      inside (ts ++ us) (suc l) (omega arith) (omega (arith, length-append ts us)) ∙ under (suc l) (suc l) h ∙ sym (inside ts (suc l) (omega arith) h)

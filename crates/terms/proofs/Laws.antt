@@ -41,7 +41,7 @@ module _ (v : ℕ) (ts : List Term) where
   rows_written l [] h = refl
   rows_written l (r ∷ rs) h = elim (cases_Bool (right r l)) [
     | inl q ↦ (let e = row_written r (and_parts _ _ q).0 in let es = rows_written (suc l) rs (sym (cond-true _ _ (Some l) q) ∙ h) in cc)
-    | inr q ↦ (absurd (let k : Some l ≡ None = sym (cond-false _ (wrong_from v ts (suc l) rs) _ q) ∙ h in let z : ◌≡◌ {A = ℕ} 0 1 = cc in omega arith))
+    | inr q ↦ (absurd (let k : Some l ≡ None = sym (cond-false _ (wrong_from v ts (suc l) rs) _ q) ∙ h in cc))
   ]
 
   -- terms that keep the rules are read from their rows, and none of these is wrong
@@ -56,7 +56,7 @@ module _ (v : ℕ) (ts : List Term) where
 
   first_wrong : (at : ℕ → RawTerm) (l n : ℕ) (rs : List RawTerm) → Along (λ m r. at m ≡ r) l rs → wrong_from v ts l rs ≡ Some n
       → (l ≤ n) × (n < l + length rs) × (right (at n) n ≡ false) × ((m : ℕ) → l ≤ m → m < n → right (at m) m ≡ true)
-  first_wrong at l n [] s h = absurd (let z : ◌≡◌ {A = ℕ} 0 1 = cc in omega arith)
+  first_wrong at l n [] s h = absurd (cc)
   first_wrong at l n (r ∷ rs) s h =
       let k : cond (right (at l) l) (wrong_from v ts (suc l) rs) (Some l) ≡ Some n = ap (λ u. cond (right u l) (wrong_from v ts (suc l) rs) (Some l)) s.0 ∙ h in
       elim (cases_Bool (right (at l) l)) [
@@ -79,14 +79,14 @@ sized_first true x e h n = (refl, h)
 sized_first false x e h n = absurd (n h)
 
 judged_ok : (o : Option ℕ) (ok : Bool) (s p : Script) → judged o ok s ≡ Ok p → (o ≡ None) × (ok ≡ true) × (s ≡ p)
-judged_ok (Some l) ok s p h = absurd (let z : ◌≡◌ {A = ℕ} 0 1 = cc in omega arith)
+judged_ok (Some l) ok s p h = absurd (cc)
 judged_ok None true s p h = (refl, refl, cc)
-judged_ok None false s p h = absurd (let z : ◌≡◌ {A = ℕ} 0 1 = cc in omega arith)
+judged_ok None false s p h = absurd (cc)
 
 judged_wrong : (o : Option ℕ) (ok : Bool) (s : Script) (l : ℕ) → judged o ok s ≡ Err (WrongTerm l) → o ≡ Some l
 judged_wrong (Some m) ok s l h = cc
-judged_wrong None true s l h = absurd (let z : ◌≡◌ {A = ℕ} 0 1 = cc in omega arith)
-judged_wrong None false s l h = absurd (let z : ◌≡◌ {A = ℕ} 0 1 = cc in omega arith)
+judged_wrong None true s l h = absurd (cc)
+judged_wrong None false s l h = absurd (cc)
 
 -- the rows that are written for a well-formed script make it
 made : (p : Script) → WellFormed p → program_of (map row_of p.terms) p.symbols (map row_of_definition p.definitions) ≡ Ok p
@@ -112,7 +112,7 @@ module _ (rows : List RawTerm) (v : ℕ) (ds : List RawDefinition) where
   unfolding program_of
   exactly p = (
     (λ h.
-        let s = sized_first _ _ (Ok p) h (λ e. let z : ◌≡◌ {A = ℕ} 0 1 = cc in omega arith) in
+        let s = sized_first _ _ (Ok p) h (λ e. cc) in
         let j = judged_ok _ _ _ p s.1 in
         let d = and_parts (all_decode ds) _ j.1 in
         subst (Written rows v ds) j.2 (record {
@@ -127,7 +127,7 @@ module _ (rows : List RawTerm) (v : ℕ) (ds : List RawDefinition) where
   pub first : FirstWrong rows v ds
   unfolding program_of term_at
   first l h =
-      let s = sized_first _ _ (Err (WrongTerm l)) h (λ e. let z : ◌≡◌ {A = ℕ} 0 1 = cc in omega arith) in
+      let s = sized_first _ _ (Err (WrongTerm l)) h (λ e. cc) in
       let ts = map term_of rows in
       let few = sizes (length rows) v (length ds) s.0 in
       let b = first_wrong v ts (row_at rows) 1 l rows (labelled _ (row 0 0 0 0) rows (λ i lt. refl)) (judged_wrong _ _ _ l s.1) in

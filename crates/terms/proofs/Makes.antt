@@ -1,5 +1,5 @@
 -- What the readings make.
-use Rattle.std.proofs.Common.{◌≡◌, ℕ, zero, suc, ◌+◌, ◌<◌, ◌≤◌, Bool, true, false, cond, ◌&&◌, eqb, leb, List, [], ◌∷◌, ◌++◌, map, length, get_or, take, is_some, Some, None, Ok, Err, sym, refl, ap, ◌∙◌, subst, inl, inr, arith}
+use Rattle.std.proofs.Common.{◌≡◌, ℕ, zero, suc, ◌+◌, ◌<◌, ◌≤◌, true, false, cond, ◌&&◌, leb, List, [], ◌∷◌, map, length, is_some, Some, None, Ok, Err, sym, refl, ap, ◌∙◌, subst, inl, inr, arith}
 use Rattle.std.proofs.lemmas.List.{length-map}
 use Rattle.std.proofs.lemmas.Bool.{cases_Bool, cases_eq, cond-true, cond-false, and_parts, and_from, leb-true}
 use Rattle.faults.specs.declared.fault.Fault.{Fault}
@@ -9,14 +9,16 @@ use Rattle.terms.specs.declared.raw.RawDefinition.{RawDefinition}
 use Rattle.terms.specs.declared.term.Term.{Term}
 use Rattle.terms.specs.declared.term.Definition.{Definition}
 use Rattle.terms.specs.Syntax.{decode}
-use Rattle.terms.specs.Script.{script_in, first_at}
-use Rattle.terms.specs.Form.{sizes_right, term_right, terms_right, script_right, definitions_right, roots, covers, well_formed, term_of, definition_of, script_of, wrong_from, all_decode, judged, program_of}
-use Rattle.terms.specs.Reading.{TermsRead, NamesWrong, DefinitionsRead}
+use Rattle.terms.specs.declared.table.Table.{Table}
+use Rattle.terms.specs.Script.{first_at}
+use Rattle.terms.specs.Table.{script_in}
+use Rattle.terms.specs.Form.{sizes_right, term_right, terms_right, script_right, well_formed, term_of, definition_of, script_of, wrong_from, all_decode, judged, program_of}
+use Rattle.terms.specs.Reading.{TermsRead, NamesWrong, defined_right, DefinitionsRead, DefinitionsWrong}
 
 wrong_none : (v : ℕ) (ts : List Term) (l : ℕ) (rs : List RawTerm) → wrong_from v ts l rs ≡ None → (m : ℕ) → l ≤ m → m < l + length rs → term_right v ts m ≡ true
 wrong_none v ts l [] h m low high = absurd (omega arith)
 wrong_none v ts l (r ∷ rs) h m low high = elim (cases_Bool (is_some (decode r) && term_right v ts l)) [
-  | inr q ↦ (absurd (let k : Some l ≡ None = sym (cond-false _ (wrong_from v ts (suc l) rs) (Some l) q) ∙ h in let z : ◌≡◌ {A = ℕ} 0 1 = cc in omega arith))
+  | inr q ↦ (absurd (let k : Some l ≡ None = sym (cond-false _ (wrong_from v ts (suc l) rs) (Some l) q) ∙ h in cc))
   | inl q ↦ (elim (cases_eq m l) [
     | inl e ↦ (subst (λ k. term_right v ts k ≡ true) (sym e) (and_parts _ _ q).1)
     | inr n ↦ (wrong_none v ts (suc l) rs (sym (cond-true _ (wrong_from v ts (suc l) rs) (Some l) q) ∙ h) m (omega arith) (omega arith))
@@ -41,10 +43,6 @@ sizes a v n h =
     let s3 = and_parts (leb v 32) _ s2.1 in
     (leb-true 1 a s0.0, leb-true a 255 s1.0, leb-true 2 v s2.0, leb-true v 32 s3.0, leb-true n 31 s3.1)
 
-covers_same : (f g : ℕ → ℕ) → ((c : ℕ) → f c ≡ g c) → (a : ℕ) (cs : List ℕ) (z : ℕ) → covers f a cs z ≡ covers g a cs z
-covers_same f g e a [] z = refl
-covers_same f g e a (c ∷ cs) z = ap (λ m. eqb m a && covers f (suc c) cs z) (e c) ∙ ap (λ b. eqb (g c) a && b) (covers_same f g e (suc c) cs z)
-
 module _ (rows : List RawTerm) (v : ℕ) (ds : List RawDefinition) where
   pub wrong_sizes : sizes_right (length rows) v (length ds) ≡ false → Err ProgramSizes ≡ program_of rows v ds
   unfolding program_of
@@ -62,31 +60,26 @@ module _ (rows : List RawTerm) (v : ℕ) (ds : List RawDefinition) where
         rw (length-map rows term_of, length-map ds definition_of)
         (and_from _ _ sized (and_from _ _ (terms_right_all v (map term_of rows) (length rows) (λ m a b. wrong_none v (map term_of rows) 1 rows none m a (omega arith))) ok))
 
-    module _ (terms : List Term) (firsts : List ℕ) (read : TermsRead rows v terms firsts) (ok : Bool) (definitions : List Definition)
-        (defined : DefinitionsRead ds (λ c. get_or firsts c 0) v (length rows) ok definitions) where
-      -- whether the definitions are right does not depend on where first labels are kept
-      right_is : ok ≡ (all_decode ds && script_right (first_at (map term_of rows)) v 1 (map definition_of ds) (length rows))
-      right_is = defined.right ∙ ap (λ b. all_decode ds && (definitions_right v (map definition_of ds) && b)) (covers_same _ _ read.begun 1 (roots (map definition_of ds) ++ (length rows ∷ [])) (suc (length rows)))
+    module _ (table : Table) (read : TermsRead rows v table) where
+      long : length table.nodes.items ≡ length rows
+      long = sym (length-map table.nodes.items _) ∙ ap length read.read ∙ length-map rows term_of
 
-      made_is : program_of rows v ds ≡ cond ok (Ok (script_of rows v ds)) (Err WrongDefinitions)
+      right_is : defined_right ds table ≡ (all_decode ds && script_right (first_at (map term_of rows)) v 1 (map definition_of ds) (length rows))
+      right_is = λ i. all_decode ds && script_right (first_at (read.read i)) (read.symbols i) 1 (map definition_of ds) (long i)
+
+      made_is : program_of rows v ds ≡ cond (defined_right ds table) (Ok (script_of rows v ds)) (Err WrongDefinitions)
       unfolding program_of
       made_is = cond-true _ _ _ sized ∙ ap (λ o. judged o (all_decode ds && script_right (first_at (map term_of rows)) v 1 (map definition_of ds) (length rows)) (script_of rows v ds)) read.right ∙ ap (λ b. cond b (Ok (script_of rows v ds)) (Err WrongDefinitions)) (sym right_is)
 
-      pub wrong_definitions : ok ≡ false → Err WrongDefinitions ≡ program_of rows v ds
-      wrong_definitions h = sym (made_is ∙ cond-false _ _ _ h)
+      pub wrong_definitions : (e : Fault) → DefinitionsWrong ds table e → Err e ≡ program_of rows v ds
+      wrong_definitions e w = ap Err w.1 ∙ sym (made_is ∙ cond-false _ _ _ w.0)
 
-      module _ (yes-right : ok ≡ true) where
-        pub script_is : script_in terms (length rows) v definitions (length ds) ≡ script_of rows v ds
-        script_is =
-            let a : take (length rows) terms ≡ map term_of rows = read.read in
-            let b : take (length ds) definitions ≡ map definition_of ds = defined.read yes-right in
-            cc
+      module _ (definitions : List Definition) (defined : DefinitionsRead ds table definitions) where
+        script_is : script_in table.nodes.items table.symbols definitions ≡ script_of rows v ds
+        script_is = λ i. record { terms = read.read i; symbols = read.symbols i; definitions = defined.1 i }
 
-        pub right_program : Ok (script_in terms (length rows) v definitions (length ds)) ≡ program_of rows v ds
-        right_program = ap Ok script_is ∙ sym (made_is ∙ cond-true _ _ _ yes-right)
+        pub right_program : Ok (script_in table.nodes.items table.symbols definitions) ≡ program_of rows v ds
+        right_program = ap Ok script_is ∙ sym (made_is ∙ cond-true _ _ _ defined.0)
 
-        pub made_formed : well_formed (script_in terms (length rows) v definitions (length ds)) ≡ true
-        made_formed = ap well_formed script_is ∙ formed_of read.right (and_parts (all_decode ds) _ (sym right_is ∙ yes-right)).1
-
-        pub made_begun : (l : ℕ) → get_or firsts l 0 ≡ first_at (take (length rows) terms) l
-        made_begun l = read.begun l ∙ ap (λ us. first_at us l) (sym read.read)
+        pub made_formed : well_formed (script_in table.nodes.items table.symbols definitions) ≡ true
+        made_formed = ap well_formed script_is ∙ formed_of read.right (and_parts (all_decode ds) _ (sym right_is ∙ defined.0)).1

@@ -12,10 +12,10 @@ use Rattle.terms.specs.Form.{definitions_right, roots}
 use Rattle.terms.specs.WellFormed.{Cover, WellFormed}
 
 never : {A : Type 0} {x : A} → None ≡ Some x → ⊥
-never e = let z : ◌≡◌ {A = ℕ} 0 1 = cc in omega arith
+never e = cc
 
 pub unlike : false ≡ true → ⊥
-unlike e = let z : ◌≡◌ {A = ℕ} 0 1 = cc in omega arith
+unlike e = cc
 
 pub spans_in : (p : Script) (b l : ℕ) → first p b ≤ l → l ≤ b → spans p b l ≡ true
 unfolding spans
@@ -26,7 +26,7 @@ unfolding spans
 spans_out p b l h = let q = and_parts (leb (first p b) l) (leb l b) h in (leb-true (first p b) l q.0, leb-true l b q.1)
 
 -- ---- covers
-cover_le : (f : ℕ → ℕ) (a : ℕ) (cs : List ℕ) (z : ℕ) → Cover f a cs z → a ≤ z
+pub cover_le : (f : ℕ → ℕ) (a : ℕ) (cs : List ℕ) (z : ℕ) → Cover f a cs z → a ≤ z
 cover_le f a [] z v = omega arith
 cover_le f a (c ∷ cs) z v = let r : suc c ≤ z = cover_le f (suc c) cs z v.2 in omega (arith, v.1)
 

@@ -1,8 +1,8 @@
 -- Where children begin, read from the last to the first, against the rule that they keep.
-use Rattle.std.proofs.Common.{◌≡◌, ℕ, suc, ◌<◌, ◌≤◌, Bool, true, false, cond, ◌&&◌, eqb, ltb, leb, List, [], ◌∷◌, Some, None, Option, sym, refl, ap, ◌∙◌, subst, inl, inr, arith}
+use Rattle.std.proofs.Common.{◌≡◌, ℕ, suc, ◌<◌, ◌≤◌, Bool, true, false, cond, ◌&&◌, eqb, ltb, leb, List, [], ◌∷◌, ◌++◌, Some, None, Option, sym, refl, ap, ◌∙◌, subst, inl, inr, arith}
 use Rattle.std.proofs.lemmas.Bool.{cond-true, cond-false, cases_Bool, and_parts, eqb-true, lt-ltb}
 use Rattle.terms.specs.Form.{chained, chained_from}
-use Rattle.terms.specs.Reading.{joined, opening}
+use Rattle.terms.specs.Reading.{ends_below, joined, opening}
 use Rattle.terms.proofs.Firsts.{step}
 
 joined_by : (g : ℕ → ℕ) (c d : ℕ) (ok : Bool) → joined g c (cond ok (Some (g d)) None) ≡ cond (leb 1 c && (eqb (suc c) (g d) && ok)) (Some (g c)) None
@@ -71,3 +71,25 @@ module _ (g : ℕ → ℕ) (le : (c : ℕ) → g c ≤ c) (l : ℕ) where
     | inl h ↦ (opening_from g c cs l ∙ ap (λ m. cond (chained_from g c cs l) (Some m) None) (sym (cond-true (ltb c l) (g c) l (lt-ltb c l (chained_below c cs h)))))
     | inr h ↦ (opening_from g c cs l ∙ cond-false _ (Some (g c)) None h ∙ sym (cond-false _ (Some (step g l (c ∷ cs))) None h))
   ]
+
+-- from the last children, whose opening is o, on to the others
+abbrev pub onward : (ℕ → ℕ) → List ℕ → Option ℕ → Option ℕ
+onward f [] o = o
+onward f (c ∷ cs) o = joined f c (onward f cs o)
+
+module _ (f : ℕ → ℕ) where
+  pub opening_onward : (cs : List ℕ) (l : ℕ) → onward f cs (Some l) ≡ opening f cs l
+  opening_onward [] l = refl
+  opening_onward (c ∷ cs) l = ap (joined f c) (opening_onward cs l)
+
+  onward_more : (cs : List ℕ) (c : ℕ) (o : Option ℕ) → onward f (cs ++ (c ∷ [])) o ≡ onward f cs (joined f c o)
+  onward_more [] c o = refl
+  onward_more (d ∷ cs) c o = ap (joined f d) (onward_more cs c o)
+
+  -- a turn: child c is taken off the end, and o is where it begins
+  pub turn : (all rest : List ℕ) (c a : ℕ) (o r : Option ℕ) → all ≡ rest ++ (c ∷ []) → onward f all (Some a) ≡ r → ends_below f c a ≡ o → onward f rest o ≡ r
+  turn all rest c a o r split sofar e = ap (onward f rest) (sym e) ∙ sym (onward_more rest c (Some a)) ∙ ap (λ cs. onward f cs (Some a)) (sym split) ∙ sofar
+
+  pub onward_none : (cs : List ℕ) → onward f cs None ≡ None
+  onward_none [] = refl
+  onward_none (c ∷ cs) = ap (joined f c) (onward_none cs)

@@ -6,35 +6,35 @@ use Rattle.terms.specs.declared.term.Term.TheVariants.{Quote}
 use Rattle.terms.specs.Syntax.{children, symbol_of, decode}
 use Rattle.terms.specs.Script.{term_at, first_at}
 use Rattle.terms.specs.Form.{symbol_right, chained, term_right, term_of}
-use Rattle.terms.specs.Reading.{beginning, term_read, read_term}
+use Rattle.terms.specs.Reading.{with_first, beginning, term_read, read_term}
 use Rattle.terms.proofs.Firsts.{step, first_le, first_step}
 use Rattle.terms.proofs.Openings.{opening_same, opening_is}
 
 beginning_by : (t : Term) (s k : Bool) (a : ℕ)
-    → cond s (beginning t (cond k (Some a) None)) None ≡ cond (s && k) (Some (t, a)) None
+    → cond s (beginning t (cond k (Some a) None)) None ≡ cond (s && k) (Some (with_first t a)) None
 beginning_by t true true a = refl
 beginning_by t true false a = refl
 beginning_by t false k a = refl
 
 module _ (v : ℕ) (ts : List Term) (l : ℕ) (low : 1 ≤ l) (high : l ≤ length ts) (f : ℕ → ℕ) (same : (c : ℕ) → c < l → f c ≡ first_at ts c) where
   at_term : (t : Term) → term_at ts l ≡ t
-      → term_read f v l (Some t) ≡ cond (symbol_right v (symbol_of t) && chained (first_at ts) (children t) l) (Some (t, first_at ts l)) None
+      → term_read f v l (Some t) ≡ cond (symbol_right v (symbol_of t) && chained (first_at ts) (children t) l) (Some (with_first t (first_at ts l))) None
   at_term t e =
       ap (λ o. cond (symbol_right v (symbol_of t)) (beginning t o) None)
       (opening_same (first_at ts) (first_le ts) l f same (children t) ∙ opening_is (first_at ts) (first_le ts) l (children t))
       ∙ beginning_by t (symbol_right v (symbol_of t)) (chained (first_at ts) (children t) l) (step (first_at ts) l (children t))
-      ∙ ap (λ a. cond (symbol_right v (symbol_of t) && chained (first_at ts) (children t) l) (Some (t, a)) None)
+      ∙ ap (λ a. cond (symbol_right v (symbol_of t) && chained (first_at ts) (children t) l) (Some (with_first t a)) None)
       (sym (first_step ts l low high ∙ ap (λ u. step (first_at ts) l (children u)) e))
 
   at_row : (o : Option Term) → term_at ts l ≡ unwrap_or o (Quote 0)
-      → term_read f v l o ≡ cond (is_some o && term_right v ts l) (Some (term_at ts l, first_at ts l)) None
+      → term_read f v l o ≡ cond (is_some o && term_right v ts l) (Some (with_first (term_at ts l) (first_at ts l))) None
   unfolding term_right
   at_row None e = refl
   at_row (Some t) e =
       at_term t e
-      ∙ ap (λ u. cond (symbol_right v (symbol_of u) && chained (first_at ts) (children u) l) (Some (u, first_at ts l)) None) (sym e)
+      ∙ ap (λ u. cond (symbol_right v (symbol_of u) && chained (first_at ts) (children u) l) (Some (with_first u (first_at ts l))) None) (sym e)
 
   -- a row is read exactly when it is right, as its term with its first label
   pub read_is : (r : RawTerm) → term_at ts l ≡ term_of r
-      → read_term f v r l ≡ cond (is_some (decode r) && term_right v ts l) (Some (term_at ts l, first_at ts l)) None
+      → read_term f v r l ≡ cond (is_some (decode r) && term_right v ts l) (Some (with_first (term_at ts l) (first_at ts l))) None
   read_is r e = at_row (decode r) e

@@ -10,6 +10,7 @@ use Rattle.terms.specs.declared.term.Definition.TheVariants.{Input, Defvar, Defu
 use Rattle.terms.specs.Syntax.{children, symbol_of, row, row_of, only, of_kind, decode, definition_row, row_of_definition, decode_definition}
 use Rattle.terms.specs.Form.{definitions_right, roots, term_of, definition_of, all_decode}
 use Rattle.terms.specs.WellFormed.{Cover}
+use Rattle.terms.proofs.Nesting.{cover_le}
 
 -- ---- from a row to what it stands for
 
@@ -19,7 +20,7 @@ Writes write r None = Unit {0}
 Writes write r (Some t) = r ≡ write t
 
 since : {R T : Type 0} (write : T → R) (r : R) (d : T) (o : Option T) → Writes write r o → is_some o ≡ true → r ≡ write (unwrap_or o d)
-since write r d None w h = absurd (let z : ◌≡◌ {A = ℕ} 0 1 = cc in omega arith)
+since write r d None w h = absurd (cc)
 since write r d (Some t) w h = w
 
 -- by what a test decides
@@ -88,10 +89,6 @@ definitions_written (r ∷ rs) h =
 abbrev Bytes : List ℕ → Type 0
 Bytes [] = Unit {0}
 Bytes (c ∷ cs) = (c ≤ 255) × Bytes cs
-
-cover_le : (f : ℕ → ℕ) (a : ℕ) (cs : List ℕ) (z : ℕ) → Cover f a cs z → a ≤ z
-cover_le f a [] z h = omega arith
-cover_le f a (c ∷ cs) z h = omega (arith, h.1, cover_le f (suc c) cs z h.2)
 
 pub cover_bytes : (f : ℕ → ℕ) (a : ℕ) (cs : List ℕ) (z : ℕ) → z ≤ 256 → Cover f a cs z → Bytes cs
 cover_bytes f a [] z le h = tt

@@ -1,6 +1,7 @@
 pub mod Syntax
 pub mod Script
 pub mod Form
+pub mod Table
 pub mod Reading
 pub mod WellFormed
 pub mod Model

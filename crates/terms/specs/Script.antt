@@ -1,5 +1,5 @@
 -- A script: its terms by label, first labels and spans, binders and function bodies.
-use Rattle.std.specs.Prelude.{ℕ, zero, suc, Bool, false, cond, ◌&&◌, ◌||◌, List, [], ◌∷◌, length, take, is_some, Some, None, Option, ◌==◌, nat_le, nat_lt, slice_index_or}
+use Rattle.std.specs.Prelude.{ℕ, zero, suc, Bool, false, cond, ◌&&◌, ◌||◌, List, [], ◌∷◌, length, is_some, Some, None, Option, ◌==◌, nat_le, nat_lt, slice_index_or}
 use Rattle.terms.specs.declared.term.Term.{Term}
 use Rattle.terms.specs.declared.term.Term.TheVariants.{Number, Quote, Lambda, Variable, Setq, Let, If, Apply, Cons, Car, Cdr, Add, Same}
 use Rattle.terms.specs.declared.term.Definition.{Definition}
@@ -11,10 +11,6 @@ pub record Script : Type 0 where
   pub terms : List Term
   pub symbols : ℕ
   pub definitions : List Definition
-
--- the script in memory: the first l of the terms and the first n of the definitions
-abbrev pub script_in : List Term → ℕ → ℕ → List Definition → ℕ → Script
-script_in ts l v ds n = record { terms = take l ts; symbols = v; definitions = take n ds }
 
 -- the label of the entry term, which is the last
 unfoldable pub last : Script → ℕ

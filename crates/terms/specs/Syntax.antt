@@ -4,8 +4,6 @@ use Rattle.terms.specs.declared.raw.RawTerm.{RawTerm}
 use Rattle.terms.specs.declared.raw.RawDefinition.{RawDefinition}
 use Rattle.terms.specs.declared.term.Term.{Term}
 use Rattle.terms.specs.declared.term.Term.TheVariants.{Number, Quote, Lambda, Variable, Setq, Let, If, Apply, Cons, Car, Cdr, Add, Same}
-use Rattle.terms.specs.declared.term.Children.{Children}
-use Rattle.terms.specs.declared.term.Children.TheVariants.{Zero, One, Two, Three}
 use Rattle.terms.specs.declared.term.Definition.{Definition}
 use Rattle.terms.specs.declared.term.Definition.TheVariants.{Input, Defvar, Defun}
 
@@ -91,12 +89,6 @@ children (Car a) = a ∷ []
 children (Cdr a) = a ∷ []
 children (Add a b) = a ∷ b ∷ []
 children (Same a b) = a ∷ b ∷ []
-
-abbrev pub listed : Children → List ℕ
-listed Zero = []
-listed (One a) = a ∷ []
-listed (Two a b) = a ∷ b ∷ []
-listed (Three a b c) = a ∷ b ∷ c ∷ []
 
 -- the symbol that a term quotes, or the variable that it names
 abbrev pub symbol_of : Term → Option ℕ

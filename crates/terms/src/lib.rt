@@ -3,8 +3,9 @@
 mod program;
 mod raw;
 mod reading;
+mod table;
 mod term;
 
 pub use program::Program;
 pub use raw::{RawDefinition, RawTerm};
-pub use term::{Definition, Term};
+pub use term::{Definition, Term, WrongForm};

@@ -1,22 +1,18 @@
 mod lookups;
 mod making;
 
-ghost use Rattle.std.specs.Prelude.{◌≡◌, ℕ, ◌≤◌, true, length, take, slice_index};
-ghost use Rattle.terms.specs.Script.{script_in, first_at};
+ghost use Rattle.std.specs.Prelude.{◌≡◌, true};
+ghost use Rattle.terms.specs.Table.{script_in};
 ghost use Rattle.terms.specs.Form.{well_formed};
 
-use crate::term::{Definition, Term};
+use crate::table::Table;
+use crate::term::Definition;
+use arrayvec::ArrayVec;
 
-// A script that keeps the rules of form. The term with label l stands at l - 1; `firsts` has the first label of each label.
+// A script that keeps the rules of form.
 #[derive(Drop)]
 pub struct Program {
-    terms: [Term; 255],
-    last: u8,
-    symbols: u8,
-    definitions: [Definition; 31],
-    count: usize,
-    firsts: [u8; 256],
-    ghost places: { (length terms ≡ 255) × (last ≤ 255) × (length definitions ≡ 31) × (length firsts ≡ 256) × (count ≤ 31) },
-    ghost formed: { well_formed (script_in terms last symbols definitions count) ≡ true },
-    ghost begun: { (l : ℕ) → slice_index firsts l ≡ first_at (take last terms) l },
+    table: Table,
+    definitions: ArrayVec<Definition, 31>,
+    ghost formed: { well_formed (script_in table.nodes.items table.symbols definitions.items) ≡ true },
 }

@@ -1,126 +1,116 @@
-ghost use Rattle.std.specs.Prelude.{◌≡◌, ◌+◌, ◌≤◌, ◌&&◌, length, replicate, Some, None, MatchResult, slice_index};
-ghost use Rattle.faults.specs.declared.fault.Fault.TheVariants.{WrongTerm};
-ghost use Rattle.terms.specs.Syntax.{listed};
-ghost use Rattle.terms.specs.Reading.{ends_below, opening, read_term, read_definition, TermsRead, NamesWrong, DefinitionsRead};
+// Reading of rows: each is tested against the terms that stand in the table below it.
+ghost use Rattle.std.specs.Prelude.{◌≡◌, ◌<◌, ◌≤◌, length, MatchResult};
+ghost use Rattle.terms.specs.Script.{first_at};
+ghost use Rattle.terms.specs.Syntax.{children};
+ghost use Rattle.terms.specs.Table.{terms_in};
+ghost use Rattle.terms.specs.Reading.{ends_below, opening, read_term, read_definition, NextRead, NextWrong, TermsRead, NamesWrong, DefinitionsRead, DefinitionsWrong};
 
 use crate::raw::{RawDefinition, RawTerm};
-use crate::term::{Children, Definition, Term};
+use crate::table::{Node, Table};
+use crate::term::{Definition, Term};
+use arrayvec::ArrayVec;
 use faults::Fault;
 
-// The first label of `child`, if the child ends just below `next`.
-fn ends_below(firsts: &[u8], child: u8, next: u8) -> Option<u8>
-    requires { length firsts.now ≡ 256 }
-    ensures { result ≡ ends_below (λ c. slice_index firsts.now c) child next }
-{
-    if child > 0 && u16::from(child) + 1 == u16::from(next) {
-        Some(firsts[child as usize])
-    } else {
-        None
-    }
-}
-
-// Where the children begin that should end just below `label`; none if they do not.
-fn opening(firsts: &[u8], children: Children, label: u8) -> Option<u8>
-    requires { length firsts.now ≡ 256 }
-    ensures { result ≡ opening (λ c. slice_index firsts.now c) (listed children) label }
-{
-    match children {
-        Children::Zero => Some(label),
-        Children::One(a) => ends_below(firsts, a, label),
-        Children::Two(a, b) => {
-            let next = ends_below(firsts, b, label)?;
-            ends_below(firsts, a, next)
+impl Table {
+    // Reads every row in the order of the labels, and refuses the first that is wrong.
+    pub(crate) fn read(rows: &[RawTerm], symbols: u8) -> Result<Table, Fault>
+        requires { length rows.now ≤ 255 }
+        ensures { MatchResult result (TermsRead rows.now symbols) (NamesWrong rows.now symbols) }
+    {
+        let mut table = Table {
+            nodes: ArrayVec::new(),
+            symbols,
+        };
+        for &row in rows {
+            table.read_term(row)?;
         }
-        Children::Three(a, b, c) => {
-            let next = ends_below(firsts, c, label)?;
-            let next = ends_below(firsts, b, next)?;
-            ends_below(firsts, a, next)
-        }
+        Ok(table)
     }
-}
 
-// The term that a row stands for at `label`, and its first label; none if it breaks the rules.
-fn read_term(firsts: &[u8], symbols: u32, row: RawTerm, label: u8) -> Option<(Term, u8)>
-    requires { length firsts.now ≡ 256 }
-    ensures { result ≡ read_term (λ c. slice_index firsts.now c) symbols row label }
-{
-    let term = Term::decode(row)?;
-    if let Some(symbol) = term.symbol() {
-        if u32::from(symbol) >= symbols {
+    // Reads the row of the next label.
+    fn read_term(&mut self, row: RawTerm) -> Result<(), Fault>
+        requires { length self.old.nodes.items < 255 }
+        ensures { MatchResult result (λ _. NextRead self.old row self.new) (NextWrong self.old row) }
+    {
+        let label = self.last() + 1;
+        let node = self.term(row, label).ok_or(Fault::WrongTerm { label })?;
+        self.nodes.push(node);
+        Ok(())
+    }
+
+    // The term that a row stands for at `label`, and its first label; none if it breaks the rules.
+    fn term(&self, row: RawTerm, label: u8) -> Option<Node>
+        ensures { result ≡ read_term (first_at (terms_in self.now.nodes.items)) self.now.symbols row label }
+    {
+        let term = Term::try_from(row).ok()?;
+        if term.symbol().is_some_and(|symbol| symbol >= self.symbols) {
             return None;
         }
+        let first = self.opening(term, label)?;
+        Some(Node { term, first })
     }
-    let first = opening(firsts, term.children(), label)?;
-    Some((term, first))
-}
 
-// Reads every row in the order of the labels, and refuses the first that is wrong.
-pub(crate) fn read_terms(
-    rows: &[RawTerm],
-    symbols: u32,
-    terms: &mut [Term],
-    firsts: &mut [u8],
-) -> Result<(), Fault>
-    requires { (length rows.now ≤ 255) × ((length terms.old ≡ 255) × (firsts.old ≡ replicate 256 0)) }
-    ensures { MatchResult result
-        (λ _. TermsRead rows.now symbols terms.new firsts.new)
-        (λ e. NamesWrong rows.now symbols e) }
-{
-    for (i, row) in rows.iter().enumerate() {
-        let label = (i + 1) as u8;
-        let Some((term, first)) = read_term(firsts, symbols, *row, label) else {
-            return Err(Fault::WrongTerm { label });
-        };
-        terms[i] = term;
-        firsts[i + 1] = first;
+    // Where the children begin that should end just below `label`; none if they do not.
+    fn opening(&self, term: Term, label: u8) -> Option<u8>
+        ensures { result ≡ opening (first_at (terms_in self.now.nodes.items)) (children term) label }
+    {
+        let mut next = label;
+        for &child in term.children().iter().rev() {
+            next = self.ends_below(child, next)?;
+        }
+        Some(next)
     }
-    Ok(())
-}
 
-// The definition that a row stands for, and up to where the roots cover the labels with it; none if it breaks the rules.
-fn read_definition(
-    firsts: &[u8],
-    symbols: u32,
-    covered: usize,
-    row: RawDefinition,
-) -> Option<(Definition, usize)>
-    requires { length firsts.now ≡ 256 }
-    ensures { result ≡ read_definition (λ c. slice_index firsts.now c) symbols covered row }
-{
-    let definition = Definition::decode(row)?;
-    if !definition.names_below(symbols) {
-        return None;
-    }
-    match definition.root() {
-        None => Some((definition, covered)),
-        Some(root) => {
-            if firsts[root as usize] as usize == covered {
-                Some((definition, root as usize + 1))
-            } else {
-                None
-            }
+    // The first label of `child`, if the child ends just below `next`.
+    fn ends_below(&self, child: u8, next: u8) -> Option<u8>
+        ensures { result ≡ ends_below (first_at (terms_in self.now.nodes.items)) child next }
+    {
+        if child > 0 && next.checked_sub(1) == Some(child) {
+            Some(self.first(child))
+        } else {
+            None
         }
     }
-}
 
-// Reads every definition, and tells whether they keep the rules.
-pub(crate) fn read_definitions(
-    rows: &[RawDefinition],
-    symbols: u32,
-    firsts: &[u8],
-    last: u8,
-    definitions: &mut [Definition],
-) -> bool
-    requires { (length rows.now ≤ 31) × ((length definitions.old ≡ 31) × (length firsts.now ≡ 256)) }
-    ensures { DefinitionsRead rows.now (λ c. slice_index firsts.now c) symbols last result definitions.new }
-{
-    let mut covered = 1;
-    for (i, row) in rows.iter().enumerate() {
-        let Some((definition, next)) = read_definition(firsts, symbols, covered, *row) else {
-            return false;
-        };
-        definitions[i] = definition;
-        covered = next;
+    // Reads every definition, and refuses those that break the rules.
+    pub(crate) fn read_definitions(
+        &self,
+        rows: &[RawDefinition],
+    ) -> Result<ArrayVec<Definition, 31>, Fault>
+        requires { length rows.now ≤ 31 }
+        ensures { MatchResult result
+            (λ ds. DefinitionsRead rows.now self.now ds.items)
+            (DefinitionsWrong rows.now self.now) }
+    {
+        let mut definitions = ArrayVec::new();
+        let mut covered = 1;
+        for &row in rows {
+            let (definition, next) = self
+                .read_definition(covered, row)
+                .ok_or(Fault::WrongDefinitions)?;
+            definitions.push(definition);
+            covered = next;
+        }
+        if usize::from(self.first(self.last())) != covered {
+            return Err(Fault::WrongDefinitions);
+        }
+        Ok(definitions)
     }
-    firsts[last as usize] as usize == covered
+
+    // The definition that a row stands for, and up to where the roots cover the labels with it; none if it breaks the rules.
+    fn read_definition(&self, covered: usize, row: RawDefinition) -> Option<(Definition, usize)>
+        ensures { result ≡ read_definition (first_at (terms_in self.now.nodes.items)) self.now.symbols covered row }
+    {
+        let definition = Definition::try_from(row).ok()?;
+        if !definition.names_below(self.symbols) {
+            return None;
+        }
+        match definition.root() {
+            None => Some((definition, covered)),
+            Some(root) if usize::from(self.first(root)) == covered => {
+                Some((definition, usize::from(root) + 1))
+            }
+            Some(_) => None,
+        }
+    }
 }

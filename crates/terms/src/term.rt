@@ -1,9 +1,13 @@
 ghost use Rattle.std.specs.Prelude.{◌≡◌};
+ghost use Rattle.std.specs.Result.{result_ok};
+ghost use Rattle.terms.specs.declared.term.Term.TheVariants.{Quote};
+ghost use Rattle.terms.specs.declared.term.Definition.TheVariants.{Input};
 ghost use Rattle.terms.specs.Form.{definition_right};
 ghost use Rattle.terms.specs.Script.{bound_by, lambda_variable, occurs, cons_operands, parameter_for, takes_input};
-ghost use Rattle.terms.specs.Syntax.{children, listed, symbol_of, decode, of_kind, decode_definition, root_of};
+ghost use Rattle.terms.specs.Syntax.{children, symbol_of, decode, of_kind, decode_definition, root_of};
 
 use crate::raw::{RawDefinition, RawTerm};
+use arrayvec::ArrayVec;
 
 // A term, with its children by label.
 #[derive(Clone, Copy)]
@@ -49,15 +53,6 @@ pub enum Term {
     },
 }
 
-// The labels of a term's children, in order.
-#[derive(Clone, Copy)]
-pub(crate) enum Children {
-    Zero,
-    One(u8),
-    Two(u8, u8),
-    Three(u8, u8, u8),
-}
-
 // A definition of the script, carried out before its entry term.
 #[derive(Clone, Copy)]
 pub enum Definition {
@@ -75,24 +70,81 @@ pub enum Definition {
     },
 }
 
-impl Term {
-    // The term that a row stands for, if its kind exists, its labels and symbols are bytes and its unused numbers are zero.
-    pub(crate) fn decode(row: RawTerm) -> Option<Term>
-        ensures { result ≡ decode row }
-    {
+// The row is not in the form that the rules give for its kind.
+#[derive(Clone, Copy, PartialEq, Eq, Debug)]
+pub struct WrongForm;
+
+// The term that a row stands for, if its kind exists, its labels and symbols are bytes and its unused numbers are zero.
+impl TryFrom<RawTerm> for Term {
+    type Error = WrongForm;
+
+    ghost try_from_gives = { λ row r. result_ok r ≡ decode row };
+
+    fn try_from(row: RawTerm) -> Result<Term, WrongForm> {
         if row.kind == 1 {
             return if row.b == 0 && row.c == 0 {
-                Some(Term::Number(row.a))
+                Ok(Term::Number(row.a))
             } else {
-                None
+                Err(WrongForm)
             };
         }
-        if row.a > 255 || row.b > 255 || row.c > 255 {
-            return None;
-        }
-        Term::of_kind(row.kind, row.a as u8, row.b as u8, row.c as u8)
+        let (Ok(a), Ok(b), Ok(c)) = (
+            u8::try_from(row.a),
+            u8::try_from(row.b),
+            u8::try_from(row.c),
+        ) else {
+            return Err(WrongForm);
+        };
+        Term::of_kind(row.kind, a, b, c).ok_or(WrongForm)
     }
+}
 
+// Nil quoted, which stands wherever there is no term.
+impl Default for Term {
+    ghost is_default = { λ t. t ≡ Quote 0 };
+
+    fn default() -> Term {
+        Term::Quote(0)
+    }
+}
+
+// The definition that a row stands for, if its kind exists, its numbers are bytes and the unused ones are zero.
+impl TryFrom<RawDefinition> for Definition {
+    type Error = WrongForm;
+
+    ghost try_from_gives = { λ row r. result_ok r ≡ decode_definition row };
+
+    fn try_from(row: RawDefinition) -> Result<Definition, WrongForm> {
+        let (Ok(variable), Ok(y), Ok(root)) = (
+            u8::try_from(row.x),
+            u8::try_from(row.y),
+            u8::try_from(row.root),
+        ) else {
+            return Err(WrongForm);
+        };
+        match (row.kind, y, root) {
+            (1, 0, 0) => Ok(Definition::Input { variable }),
+            (2, 0, root) => Ok(Definition::Defvar { variable, root }),
+            (3, parameter, root) => Ok(Definition::Defun {
+                variable,
+                parameter,
+                root,
+            }),
+            _ => Err(WrongForm),
+        }
+    }
+}
+
+// What stands in the unused places of a list of definitions.
+impl Default for Definition {
+    ghost is_default = { λ d. d ≡ Input 0 };
+
+    fn default() -> Definition {
+        Definition::Input { variable: 0 }
+    }
+}
+
+impl Term {
     // The other kinds than numbers.
     fn of_kind(kind: u32, a: u8, b: u8, c: u8) -> Option<Term>
         ensures { result ≡ of_kind kind a b c }
@@ -125,24 +177,49 @@ impl Term {
         }
     }
 
-    pub(crate) fn children(&self) -> Children
-        ensures { listed result ≡ children self.now }
+    // The labels of the children, in order.
+    pub(crate) fn children(&self) -> ArrayVec<u8, 3>
+        ensures { result.items ≡ children self.now }
     {
+        let mut children = ArrayVec::new();
         match *self {
-            Term::Number(_) | Term::Quote(_) | Term::Variable(_) => Children::Zero,
-            Term::Lambda { body, .. } => Children::One(body),
-            Term::Setq { value, .. } => Children::One(value),
-            Term::Car(operand) | Term::Cdr(operand) => Children::One(operand),
-            Term::Let { value, body, .. } => Children::Two(value, body),
-            Term::Apply { operator, operand } => Children::Two(operator, operand),
-            Term::Cons { first, second } => Children::Two(first, second),
-            Term::Add { left, right } | Term::Same { left, right } => Children::Two(left, right),
+            Term::Number(_) | Term::Quote(_) | Term::Variable(_) => {}
+            Term::Lambda { body: child, .. }
+            | Term::Setq { value: child, .. }
+            | Term::Car(child)
+            | Term::Cdr(child) => children.push(child),
+            Term::Let {
+                value: first,
+                body: second,
+                ..
+            }
+            | Term::Apply {
+                operator: first,
+                operand: second,
+            }
+            | Term::Cons { first, second }
+            | Term::Add {
+                left: first,
+                right: second,
+            }
+            | Term::Same {
+                left: first,
+                right: second,
+            } => {
+                children.push(first);
+                children.push(second);
+            }
             Term::If {
                 condition,
                 then,
                 otherwise,
-            } => Children::Three(condition, then, otherwise),
+            } => {
+                children.push(condition);
+                children.push(then);
+                children.push(otherwise);
+            }
         }
+        children
     }
 
     // The variable that a let or a lambda binds in its body.
@@ -201,39 +278,18 @@ impl Term {
 }
 
 impl Definition {
-    // The definition that a row stands for, if its kind exists, its numbers are bytes and the unused ones are zero.
-    pub(crate) fn decode(row: RawDefinition) -> Option<Definition>
-        ensures { result ≡ decode_definition row }
-    {
-        if row.x > 255 || row.y > 255 || row.root > 255 {
-            return None;
-        }
-        let variable = row.x as u8;
-        match (row.kind, row.y as u8, row.root as u8) {
-            (1, 0, 0) => Some(Definition::Input { variable }),
-            (2, 0, root) => Some(Definition::Defvar { variable, root }),
-            (3, parameter, root) => Some(Definition::Defun {
-                variable,
-                parameter,
-                root,
-            }),
-            _ => None,
-        }
-    }
-
     // Whether each symbol that the definition names is below `symbols`.
-    pub(crate) fn names_below(&self, symbols: u32) -> bool
+    pub(crate) fn names_below(&self, symbols: u8) -> bool
         ensures { result ≡ definition_right symbols self.now }
     {
         match *self {
-            Definition::Input { variable } | Definition::Defvar { variable, .. } => u32::from(
-                variable,
-            ) < symbols,
+            Definition::Input { variable } | Definition::Defvar { variable, .. } => variable
+                < symbols,
             Definition::Defun {
                 variable,
                 parameter,
                 ..
-            } => u32::from(variable) < symbols && u32::from(parameter) < symbols,
+            } => variable < symbols && parameter < symbols,
         }
     }
 

@@ -5,15 +5,14 @@ ghost use Rattle.terms.specs.Model.{made_script};
 
 use crate::program::Program;
 use crate::raw::{RawDefinition, RawTerm};
-use crate::reading::{read_definitions, read_terms};
-use crate::term::{Definition, Term};
+use crate::table::Table;
 use faults::Fault;
 
 // Whether a script may have so many terms, symbols and definitions.
 fn sizes_right(terms: usize, symbols: u32, definitions: usize) -> bool
     ensures { result ≡ sizes_right terms symbols definitions }
 {
-    1 <= terms && terms <= 255 && 2 <= symbols && symbols <= 32 && definitions <= 31
+    (1..=255).contains(&terms) && (2..=32).contains(&symbols) && definitions <= 31
 }
 
 impl Program {
@@ -30,22 +29,8 @@ impl Program {
         if !sizes_right(terms.len(), symbols, definitions.len()) {
             return Err(Fault::ProgramSizes);
         }
-        let last = terms.len() as u8;
-        let count = definitions.len();
-        let mut table = [Term::Quote(0); 255];
-        let mut firsts = [0; 256];
-        read_terms(terms, symbols, &mut table, &mut firsts)?;
-        let mut list = [Definition::Input { variable: 0 }; 31];
-        if !read_definitions(definitions, symbols, &firsts, last, &mut list) {
-            return Err(Fault::WrongDefinitions);
-        }
-        Ok(Program {
-            terms: table,
-            last,
-            symbols: symbols as u8,
-            definitions: list,
-            count,
-            firsts,
-        })
+        let table = Table::read(terms, symbols as u8)?;
+        let definitions = table.read_definitions(definitions)?;
+        Ok(Program { table, definitions })
     }
 }

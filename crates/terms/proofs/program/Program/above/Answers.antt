@@ -1,13 +1,13 @@
-use Rattle.std.proofs.Common.{arith}
-use Rattle.terms.proofs.Lookups.{above_is, none_above}
+use Rattle.std.proofs.Common.{◌≡◌, rules}
+use Rattle.std.specs.Option.{MatchOption}
+use Rattle.std.specs.Slice.{IsItemAt}
+use Rattle.terms.specs.declared.term.Term.TheVariants.{Quote}
+use Rattle.terms.proofs.Lookups.{above_is}
 use Rattle.terms.proofs.program.Program.above.Goals as goal
 
-pub returns-then-label-self : goal.returns-then-label-self
-returns-then-label-self c =
-    let p = c.args.self.now in
-    above_is p.terms p.last p.symbols p.definitions p.count (omega arith) c.args.label _ c.if-label-self.true
-
-pub returns-else-label-self : goal.returns-else-label-self
-returns-else-label-self c =
-    let p = c.args.self.now in
-    none_above p.terms p.last p.symbols p.definitions p.count (omega arith) c.args.label c.if-label-self.false
+pub returns : goal.returns
+returns c =
+    let ns = c.args.self.now.table.nodes.items in
+    let found : IsItemAt ns c.args.label c.get.result = search rules in
+    let e : MatchOption c.get.result (c.map_or.result ≡ Quote 0) (λ x. c.map_or.result ≡ x.now.term) = search rules in
+    above_is ns c.args.label _ _ found e

@@ -1,14 +1,12 @@
-use Rattle.std.proofs.Common.{ap, ◌∙◌}
+use Rattle.std.proofs.Common.{◌≡◌, Some, ap, ◌∙◌, rules}
+use Rattle.std.specs.Option.{MatchOption}
 use Rattle.terms.specs.Script.{or_else, binds, bound_by, defun_parameter}
-use Rattle.terms.specs.Model.{model}
+use Rattle.terms.proofs.Lookups.{or_else_is}
 use Rattle.terms.proofs.program.Program.binder.Goals as goal
 
-pub returns-in-Some : goal.returns-in-Some
+pub returns : goal.returns
 unfolding binds
-returns-in-Some c =
-    ap (λ o. or_else o (defun_parameter (model c.args.self.now).definitions c.args.label)) (c.in-Some.ensures ∙ ap bound_by c.above.ensures)
-
-pub returns-in-None : goal.returns-in-None
-unfolding binds
-returns-in-None c =
-    c.defun.ensures ∙ ap (λ o. or_else o (defun_parameter (model c.args.self.now).definitions c.args.label)) (c.in-None.ensures ∙ ap bound_by c.above.ensures)
+returns c =
+    let ds = c.args.self.now.definitions.items in
+    let e : MatchOption c.bound.result (c.or_else.result ≡ defun_parameter ds c.args.label) (λ x. c.or_else.result ≡ Some x) = search rules in
+    or_else_is _ _ _ e ∙ ap (λ o. or_else o (defun_parameter ds c.args.label)) (c.bound.ensures ∙ ap bound_by c.above.ensures)

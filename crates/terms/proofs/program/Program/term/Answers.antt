@@ -1,18 +1,12 @@
-use Rattle.std.proofs.Common.{arith}
-use Rattle.terms.proofs.Lookups.{term_is, no_term}
+use Rattle.std.proofs.Common.{◌≡◌, ◌∙◌, rules}
+use Rattle.std.specs.Prelude.{option_map}
+use Rattle.terms.specs.declared.table.Node.{Node}
+use Rattle.terms.specs.Table.{node_at}
+use Rattle.terms.proofs.Lookups.{term_is}
 use Rattle.terms.proofs.program.Program.term.Goals as goal
-use Rattle.terms.proofs.program.Program.term.Goals.{else-label-ge1-via-then-label-ge1+else-label-self, else-label-ge1-via-else-label-ge1}
 
-pub returns-then-label-self : goal.returns-then-label-self
-returns-then-label-self c =
+pub returns : goal.returns
+returns c =
     let p = c.args.self.now in
-    term_is p.terms p.last p.symbols p.definitions p.count (omega arith) c.args.label _ (omega arith) (omega arith)
-
-pub returns-else-label-ge1 : goal.returns-else-label-ge1
-returns-else-label-ge1 c =
-    let p = c.args.self.now in
-    no_term p.terms p.last p.symbols p.definitions p.count (omega arith) c.args.label
-    (λ low high. elim c.else-label-ge1.branch [
-      | else-label-ge1-via-then-label-ge1+else-label-self w ↦ (omega (arith, w.if-label-self.false))
-      | else-label-ge1-via-else-label-ge1 w ↦ (omega (arith, w.if-label-ge1.false))
-    ])
+    let e : c.map.result ≡ option_map (λ (n : Node). n.term) (node_at p.table.nodes.items c.args.label) = search rules in
+    e ∙ term_is p.table.nodes.items p.table.symbols p.definitions.items c.args.label
