@@ -11,7 +11,7 @@ use Rattle.terms.proofs.Openings.{chained_below}
 use Rattle.terms.proofs.Makes.{sizes, terms_right_all, terms_right_at}
 
 pub name_below : (v x : ℕ) (o : Option ℕ) → symbol_right v o ≡ true → o ≡ Some x → x < v
-name_below v x None h e = absurd (cc)
+name_below v x None h e = absurd cc
 name_below v x (Some y) h e = let q : y ≡ x = cc in let k : y < v = ltb-true y v h in omega arith
 
 name_right : (v : ℕ) (o : Option ℕ) → ((x : ℕ) → o ≡ Some x → x < v) → symbol_right v o ≡ true

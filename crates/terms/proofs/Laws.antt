@@ -56,7 +56,7 @@ module _ (v : ℕ) (ts : List Term) where
 
   first_wrong : (at : ℕ → RawTerm) (l n : ℕ) (rs : List RawTerm) → Along (λ m r. at m ≡ r) l rs → wrong_from v ts l rs ≡ Some n
       → (l ≤ n) × (n < l + length rs) × (right (at n) n ≡ false) × ((m : ℕ) → l ≤ m → m < n → right (at m) m ≡ true)
-  first_wrong at l n [] s h = absurd (cc)
+  first_wrong at l n [] s h = absurd cc
   first_wrong at l n (r ∷ rs) s h =
       let k : cond (right (at l) l) (wrong_from v ts (suc l) rs) (Some l) ≡ Some n = ap (λ u. cond (right u l) (wrong_from v ts (suc l) rs) (Some l)) s.0 ∙ h in
       elim (cases_Bool (right (at l) l)) [
@@ -79,14 +79,14 @@ sized_first true x e h n = (refl, h)
 sized_first false x e h n = absurd (n h)
 
 judged_ok : (o : Option ℕ) (ok : Bool) (s p : Script) → judged o ok s ≡ Ok p → (o ≡ None) × (ok ≡ true) × (s ≡ p)
-judged_ok (Some l) ok s p h = absurd (cc)
+judged_ok (Some l) ok s p h = absurd cc
 judged_ok None true s p h = (refl, refl, cc)
-judged_ok None false s p h = absurd (cc)
+judged_ok None false s p h = absurd cc
 
 judged_wrong : (o : Option ℕ) (ok : Bool) (s : Script) (l : ℕ) → judged o ok s ≡ Err (WrongTerm l) → o ≡ Some l
 judged_wrong (Some m) ok s l h = cc
-judged_wrong None true s l h = absurd (cc)
-judged_wrong None false s l h = absurd (cc)
+judged_wrong None true s l h = absurd cc
+judged_wrong None false s l h = absurd cc
 
 -- the rows that are written for a well-formed script make it
 made : (p : Script) → WellFormed p → program_of (map row_of p.terms) p.symbols (map row_of_definition p.definitions) ≡ Ok p

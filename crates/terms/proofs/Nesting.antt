@@ -11,9 +11,6 @@ use Rattle.terms.specs.Script.{Script, last, term_at, term, first, spans, bound_
 use Rattle.terms.specs.Form.{definitions_right, roots}
 use Rattle.terms.specs.WellFormed.{Cover, WellFormed}
 
-never : {A : Type 0} {x : A} → None ≡ Some x → ⊥
-never e = cc
-
 pub unlike : false ≡ true → ⊥
 unlike e = cc
 
@@ -69,19 +66,19 @@ module _ (p : Script) (w : WellFormed p) where
   -- ---- binders
   -- the last child of a form that binds is one below it
   body_some : (t : Term) (a b : ℕ) → is_some (bound_by t) ≡ true → Cover (first p) a (children t) (suc b) → a ≤ b
-  body_some (Number n) a b h v = absurd (unlike h)
-  body_some (Quote s) a b h v = absurd (unlike h)
+  body_some (Number n) a b h v = absurd cc
+  body_some (Quote s) a b h v = absurd cc
   body_some (Lambda x c) a b h v = omega (arith, v.1, v.2)
-  body_some (Variable x) a b h v = absurd (unlike h)
-  body_some (Setq x c) a b h v = absurd (unlike h)
+  body_some (Variable x) a b h v = absurd cc
+  body_some (Setq x c) a b h v = absurd cc
   body_some (Let x c d) a b h v = omega (arith, v.1, v.2.1, v.2.2)
-  body_some (If c d e) a b h v = absurd (unlike h)
-  body_some (Apply c d) a b h v = absurd (unlike h)
-  body_some (Cons c d) a b h v = absurd (unlike h)
-  body_some (Car c) a b h v = absurd (unlike h)
-  body_some (Cdr c) a b h v = absurd (unlike h)
-  body_some (Add c d) a b h v = absurd (unlike h)
-  body_some (Same c d) a b h v = absurd (unlike h)
+  body_some (If c d e) a b h v = absurd cc
+  body_some (Apply c d) a b h v = absurd cc
+  body_some (Cons c d) a b h v = absurd cc
+  body_some (Car c) a b h v = absurd cc
+  body_some (Cdr c) a b h v = absurd cc
+  body_some (Add c d) a b h v = absurd cc
+  body_some (Same c d) a b h v = absurd cc
 
   past_last : (l : ℕ) → last p < suc l → term p (suc l) ≡ Quote 0
   unfolding term_at last
@@ -96,7 +93,7 @@ module _ (p : Script) (w : WellFormed p) where
   ]
 
   root_label : (ds : List Definition) (a l z b : ℕ) → Cover (first p) a (roots ds ++ (l ∷ [])) z → is_some (defun_parameter ds b) ≡ true → (a ≤ b) × (b < l)
-  root_label [] a l z b v h = absurd (unlike h)
+  root_label [] a l z b v h = absurd cc
   root_label (Input x ∷ ds) a l z b v h = root_label ds a l z b v h
   root_label (Defvar x r ∷ ds) a l z b v h =
       let k = root_label ds (suc r) l z b v.2 h in (omega (arith, v.1, k.0), k.1)
@@ -119,37 +116,37 @@ module _ (p : Script) (w : WellFormed p) where
 
   -- ---- variables
   bound_names : (t : Term) (x : ℕ) → bound_by t ≡ Some x → symbol_of t ≡ Some x
-  bound_names (Number n) x e = absurd (never e)
-  bound_names (Quote s) x e = absurd (never e)
+  bound_names (Number n) x e = absurd cc
+  bound_names (Quote s) x e = absurd cc
   bound_names (Lambda y c) x e = e
-  bound_names (Variable y) x e = absurd (never e)
-  bound_names (Setq y c) x e = absurd (never e)
+  bound_names (Variable y) x e = absurd cc
+  bound_names (Setq y c) x e = absurd cc
   bound_names (Let y c d) x e = e
-  bound_names (If c d f) x e = absurd (never e)
-  bound_names (Apply c d) x e = absurd (never e)
-  bound_names (Cons c d) x e = absurd (never e)
-  bound_names (Car c) x e = absurd (never e)
-  bound_names (Cdr c) x e = absurd (never e)
-  bound_names (Add c d) x e = absurd (never e)
-  bound_names (Same c d) x e = absurd (never e)
+  bound_names (If c d f) x e = absurd cc
+  bound_names (Apply c d) x e = absurd cc
+  bound_names (Cons c d) x e = absurd cc
+  bound_names (Car c) x e = absurd cc
+  bound_names (Cdr c) x e = absurd cc
+  bound_names (Add c d) x e = absurd cc
+  bound_names (Same c d) x e = absurd cc
 
   occurs_names : (t : Term) (x : ℕ) → occurs t ≡ Some x → symbol_of t ≡ Some x
-  occurs_names (Number n) x e = absurd (never e)
-  occurs_names (Quote s) x e = absurd (never e)
-  occurs_names (Lambda y c) x e = absurd (never e)
+  occurs_names (Number n) x e = absurd cc
+  occurs_names (Quote s) x e = absurd cc
+  occurs_names (Lambda y c) x e = absurd cc
   occurs_names (Variable y) x e = e
   occurs_names (Setq y c) x e = e
-  occurs_names (Let y c d) x e = absurd (never e)
-  occurs_names (If c d f) x e = absurd (never e)
-  occurs_names (Apply c d) x e = absurd (never e)
-  occurs_names (Cons c d) x e = absurd (never e)
-  occurs_names (Car c) x e = absurd (never e)
-  occurs_names (Cdr c) x e = absurd (never e)
-  occurs_names (Add c d) x e = absurd (never e)
-  occurs_names (Same c d) x e = absurd (never e)
+  occurs_names (Let y c d) x e = absurd cc
+  occurs_names (If c d f) x e = absurd cc
+  occurs_names (Apply c d) x e = absurd cc
+  occurs_names (Cons c d) x e = absurd cc
+  occurs_names (Car c) x e = absurd cc
+  occurs_names (Cdr c) x e = absurd cc
+  occurs_names (Add c d) x e = absurd cc
+  occurs_names (Same c d) x e = absurd cc
 
   parameter_below : (v : ℕ) (ds : List Definition) (b x : ℕ) → definitions_right v ds ≡ true → defun_parameter ds b ≡ Some x → x < v
-  parameter_below v [] b x h e = absurd (never e)
+  parameter_below v [] b x h e = absurd cc
   parameter_below v (Input y ∷ ds) b x h e = parameter_below v ds b x (and_parts (ltb y v) _ h).1 e
   parameter_below v (Defvar y r ∷ ds) b x h e = parameter_below v ds b x (and_parts (ltb y v) _ h).1 e
   parameter_below v (Defun y z r ∷ ds) b x h e = elim (cases_Bool (eqb r b)) [

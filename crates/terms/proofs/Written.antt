@@ -20,7 +20,7 @@ Writes write r None = Unit {0}
 Writes write r (Some t) = r ≡ write t
 
 since : {R T : Type 0} (write : T → R) (r : R) (d : T) (o : Option T) → Writes write r o → is_some o ≡ true → r ≡ write (unwrap_or o d)
-since write r d None w h = absurd (cc)
+since write r d None w h = absurd cc
 since write r d (Some t) w h = w
 
 -- by what a test decides

@@ -28,6 +28,7 @@ impl Table {
         self.nodes.len() as u8
     }
 
+    // The term with this label and its first label, if there is one.
     pub(crate) fn node(&self, label: u8) -> Option<Node>
         ensures { result ≡ node_at self.now.nodes.items label }
     {
