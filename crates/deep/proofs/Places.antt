@@ -1,90 +1,65 @@
--- The calls of a store whose bindings stand behind the first n of the records xs.
-use Rattle.std.proofs.Common.{◌≡◌, ℕ, ◌+◌, ◌-◌, ◌<◌, ◌≤◌, List, [], ◌∷◌, length, get_or, take, drop, set, replicate, Some, None, Ok, Err, Option, sym, refl, ap, ◌∙◌, subst, arith, length-drop, length-set}
-use Rattle.std.proofs.lemmas.List.{drop_more, drop-set, drop_all, get_or-drop, drop-set-add, take_rest}
-use Rattle.faults.specs.declared.fault.Fault.TheVariants.{StoreFull, StoreEmpty}
+-- What a search of the bindings tells of them.
+use Rattle.std.proofs.Common.{◌≡◌, ℕ, suc, ◌+◌, ◌<◌, ◌≤◌, Bool, true, false, not, cond, eqb, List, [], ◌∷◌, length, get_or, slice_get, set, Some, None, Ok, Option, position, find, option_map, sym, refl, ap, ◌∙◌, arith, length-set}
+use Rattle.std.specs.List.{position_or_len}
+use Rattle.std.proofs.lemmas.Bool.Decides.{nat_tests}
+use Rattle.std.proofs.lemmas.List.Folds.{find_at}
+use Rattle.std.proofs.lemmas.Option.{slice_get_read, slice_get_cases}
 use Rattle.stores.specs.declared.binding.Binding.{Binding}
-use Rattle.stores.specs.Meaning.{Formed, new_store, bound, bind_of, unbind_of, newest, look_of, or_else, outermost, replaced, put_of}
-use Rattle.deep.specs.Records.{held, Place, Behind}
-use Rattle.stores.proofs.Bindings.{with_thing, newest_at, replaced_at}
+use Rattle.stores.specs.Stack.{Stacked, capacity_of, set_of}
+use Rattle.stores.specs.Meaning.{newest, outermost, or_else, replaced, look_of, put_of}
+use Rattle.stores.proofs.Bindings.{with_thing}
 use Rattle.stores.proofs.Calls as calls
+use Rattle.deep.specs.Records.{held}
 
-some_item : {X : Type 0} (xs : List X) → 0 < length xs → X
-some_item [] h = absurd (omega arith)
-some_item (x ∷ xs) h = x
+module _ {X : Type 0} (p : X → Bool) (xs : List X) where
+  place_found : (i : ℕ) → Some i ≡ position p xs → (i < length xs) × (i ≡ position_or_len p xs)
+  place_found i e = grind (arith, nat_tests)
 
-pub held_none : {T : Type 0} (xs : List (Binding T)) (top : List (Option T)) → top ≡ replicate 32 None → held xs (length xs) top ≡ new_store T (length xs)
-held_none xs top e =
-    let list : drop (length xs) xs ≡ [] = drop_all (length xs) xs (omega arith) in
-    cc
+  pub item_found : (i : ℕ) (x : X) → Some i ≡ position p xs → x ≡ get_or xs i x → Some x ≡ find p xs
+  item_found i x e is =
+      let f = place_found i e in
+      sym (find_at p xs ∙ ap (λ k. slice_get xs k) (sym f.1) ∙ slice_get_read xs (length xs) i x refl f.0 is)
 
-module _ {T : Type 0} (xs : List (Binding T)) (n : ℕ) (top : List (Option T)) (fits : n ≤ length xs) where
-  pub counted : length xs - n ≡ length (drop n xs)
-  counted = sym (length-drop n xs)
+  pub none_found : None ≡ position p xs → None ≡ find p xs
+  none_found e = grind (arith, nat_tests, find_at, slice_get_cases)
 
-  pub formed : length top ≡ 32 → Formed (held xs n top)
-  formed size = record { room = simp length-drop (omega arith); places = size }
+abbrev pub of : {T : Type 0} → ℕ → Binding T → Bool
+of x b = eqb b.variable x
 
-  pub bind_full : (x : ℕ) (t : T) (b : ℕ) → x ≤ 31 → n ≡ 0 → (Err StoreFull, held xs n top) ≡ bind_of (held xs n top) x t b
-  bind_full x t b low none = calls.bind_full (held xs n top) x t b low (simp length-drop (omega arith))
+newest_find : {T : Type 0} (x : ℕ) (bs : List (Binding T)) → newest x bs ≡ option_map (λ b. (b.thing, b.birthplace)) (find (of x) bs)
+newest_find x [] = refl
+newest_find x (b ∷ bs) =
+    elim (eqb b.variable x) as (λ v. cond v (Some (b.thing, b.birthplace)) (newest x bs) ≡ option_map (λ b. (b.thing, b.birthplace)) (cond v (Some b) (find (of x) bs)))
+    [ true ↦ refl | false ↦ newest_find x bs ]
 
-  pub bind_room : (x : ℕ) (t : T) (b : ℕ) → x ≤ 31 → (n ≡ 0 → ⊥)
-      → (Ok tt, held (set xs (n - 1) (record { variable = x; thing = t; birthplace = b })) (n - 1) top) ≡ bind_of (held xs n top) x t b
-  bind_room x t b low some =
-      let new : Binding T = record { variable = x; thing = t; birthplace = b } in
-      let list : drop (n - 1) (set xs (n - 1) new) ≡ new ∷ drop n xs =
-      drop-set xs (n - 1) new (omega arith) ∙ ap (λ k. new ∷ drop k xs) (let one : (n - 1) + 1 ≡ n = omega arith in one) in
-      let long : length (set xs (n - 1) new) ≡ length xs = length-set xs (n - 1) new in
-      let is : held (set xs (n - 1) new) (n - 1) top ≡ bound (held xs n top) x t b = cc in
-      calls.bind_room (held xs n top) x t b _ low (λ e. some (let l = counted in omega arith)) is
+replaced_find : {T : Type 0} (x : ℕ) (t : T) (bs : List (Binding T)) (b : Binding T) → Some b ≡ find (of x) bs → replaced x t bs ≡ set bs (position_or_len (of x) bs) (with_thing b t)
+replaced_find x t [] b h = absurd (let z : ◌≡◌ {A = ℕ} 0 1 = cc in omega arith)
+replaced_find {T} x t (a ∷ bs) b h =
+    let P : Bool → Type 0 = λ v. Some b ≡ cond v (Some a) (find (of x) bs) → cond v (with_thing a t ∷ bs) (a ∷ replaced x t bs) ≡ set (a ∷ bs) (cond (not v) (1 + position_or_len (of x) bs) 0) (with_thing b t) in
+    let both : (v : Bool) → P v = λ v. elim v as P [ true ↦ λ e. (cc) | false ↦ λ e. ap (λ l. a ∷ l) (replaced_find x t bs b e) ∙ ap (λ k. set (a ∷ bs) k (with_thing b t)) (let more : suc (position_or_len (of x) bs) ≡ 1 + position_or_len (of x) bs = omega arith in more) ] in
+    both (eqb a.variable x) h
 
-  pub unbind_none : n ≡ length xs → (Err StoreEmpty, held xs n top) ≡ unbind_of (held xs n top)
-  unbind_none e = rw (drop_all n xs (omega arith)) refl
+module _ {T : Type 0} (s : Stacked (Binding T)) (top : List (Option T)) (x : ℕ) (low : x ≤ 31) where
+  pub look_bound : (b : Binding T) → Some b ≡ find (of x) s.items → Ok (Some (b.thing, b.birthplace)) ≡ look_of (held s top) x
+  look_bound b e =
+      calls.look_low (held s top) x _ low
+      (ap (λ o. or_else (option_map (λ v. (v.thing, v.birthplace)) o) (outermost (get_or top x None))) e
+      ∙ ap (λ o. or_else o (outermost (get_or top x None))) (sym (newest_find x s.items)))
 
-  pub unbind_one : n < length xs → (Ok tt, held xs (n + 1) top) ≡ unbind_of (held xs n top)
-  unbind_one lt = rw (drop_more xs n (some_item xs (omega arith)) lt) refl
+  pub look_free : None ≡ find (of x) s.items → Ok (outermost (get_or top x None)) ≡ look_of (held s top) x
+  look_free e =
+      calls.look_low (held s top) x _ low
+      (ap (λ o. or_else (option_map (λ v. (v.thing, v.birthplace)) o) (outermost (get_or top x None))) e
+      ∙ ap (λ o. or_else o (outermost (get_or top x None))) (sym (newest_find x s.items)))
 
-  -- what a search of the list behind the first n tells of the records
-  pub behind_some : (x i : ℕ) → Place x (take (length xs - n) (drop n xs)) (Some i) → Behind x xs n (Some (n + i))
-  behind_some x i h =
-      let p : Place x (drop n xs) (Some i) = rw take_rest at h in
-      let lt : i < length (drop n xs) = p.0 in
-      let long = counted in
-      let back : (n + i) - n ≡ i = omega arith in
-      (omega arith, omega arith, subst (λ k. Place x (drop n xs) (Some k)) (sym back) p)
+  pub put_bound : (i : ℕ) (b : Binding T) (t : T) → Some i ≡ position (of x) s.items → Some b ≡ find (of x) s.items → (Ok tt, held (set_of s i (with_thing b t)) top) ≡ put_of (held s top) x t
+  put_bound i b t at e =
+      let shown : newest x s.items ≡ Some (b.thing, b.birthplace) = newest_find x s.items ∙ ap (option_map (λ v. (v.thing, v.birthplace))) (sym e) in
+      let list : set s.items i (with_thing b t) ≡ replaced x t s.items = ap (λ k. set s.items k (with_thing b t)) (place_found (of x) s.items i at).1 ∙ sym (replaced_find x t s.items b e) in
+      let long : length (set s.items i (with_thing b t)) ≡ length s.items = length-set s.items i (with_thing b t) in
+      calls.put_bound s.items (set s.items i (with_thing b t)) top top (capacity_of s) (capacity_of (set_of s i (with_thing b t))) (ap (λ n. n + s.free) long) x t low _ shown list refl
 
-  pub behind_none : (x : ℕ) → Place x (take (length xs - n) (drop n xs)) None → Behind x xs n None
-  behind_none x h = rw take_rest at h
-
-  -- the newest binding of x stands at i
-  module _ (x i : ℕ) (d : Binding T) (low : x ≤ 31) (h : Behind x xs n (Some i)) where
-    at_i : n + (i - n) ≡ i
-    at_i = omega (arith, h.0)
-
-    item : get_or (drop n xs) (i - n) d ≡ get_or xs i d
-    item = get_or-drop n xs (i - n) d ∙ ap (λ k. get_or xs k d) at_i
-
-    shown : newest x (drop n xs) ≡ Some ((get_or xs i d).thing, (get_or xs i d).birthplace)
-    shown = newest_at x (drop n xs) (i - n) d h.2.0 (h.2.1 d) h.2.2 ∙ ap (λ v. Some (v.thing, v.birthplace)) item
-
-    -- d is what was read there
-    pub look_at : d ≡ get_or (take (length xs - 0) (drop 0 xs)) i d → Ok (Some (d.thing, d.birthplace)) ≡ look_of (held xs n top) x
-    look_at read =
-        calls.look_low (held xs n top) x _ low
-        (ap (λ v. Some (v.thing, v.birthplace)) (read ∙ ap (λ l. get_or l i d) (take_rest xs 0)) ∙ ap (λ o. or_else o (outermost (get_or top x None))) (sym shown))
-
-    pub put_at : (t : T) → (Ok tt, held (set xs i (with_thing (get_or xs i d) t)) n top) ≡ put_of (held xs n top) x t
-    put_at t =
-        let new : Binding T = with_thing (get_or xs i d) t in
-        let list : drop n (set xs i new) ≡ replaced x t (drop n xs) =
-        ap (λ k. drop n (set xs k new)) (sym at_i) ∙ drop-set-add n xs (i - n) new
-        ∙ ap (λ v. set (drop n xs) (i - n) (with_thing v t)) (sym item)
-        ∙ sym (replaced_at x (drop n xs) (i - n) d h.2.0 (h.2.1 d) h.2.2 t) in
-        calls.put_bound (drop n xs) (drop n (set xs i new)) top top (length xs) (length (set xs i new)) (length-set xs i new) x t low _ shown list refl
-
-  pub look_top : (x : ℕ) (o : Option T) → x ≤ 31 → newest x (drop n xs) ≡ None → o ≡ get_or top x None → Ok (outermost o) ≡ look_of (held xs n top) x
-  look_top x o low none is =
-      calls.look_low (held xs n top) x _ low (ap outermost is ∙ ap (λ p. or_else p (outermost (get_or top x None))) (sym none))
-
-  pub put_top : (x : ℕ) (t : T) (top' : List (Option T)) → x ≤ 31 → newest x (drop n xs) ≡ None → top' ≡ set top x (Some t)
-      → (Ok tt, held xs n top') ≡ put_of (held xs n top) x t
-  put_top x t top' low none e = calls.put_top (drop n xs) (drop n xs) top top' (length xs) (length xs) refl x t low none refl e
+  pub put_free : (t : T) → None ≡ find (of x) s.items → (Ok tt, held s (set top x (Some t))) ≡ put_of (held s top) x t
+  put_free t e =
+      calls.put_top s.items s.items top (set top x (Some t)) (capacity_of s) (capacity_of s) refl x t low
+      (newest_find x s.items ∙ ap (option_map (λ v. (v.thing, v.birthplace))) (sym e)) refl refl

@@ -1,118 +1,88 @@
-ghost use Rattle.std.specs.Prelude.{◌≡◌, ◌≤◌, length};
+ghost use Rattle.std.specs.Prelude.{◌≡◌, ◌==◌, length, position, find, option_map};
 ghost use Rattle.stores.specs.Meaning.{new_store};
-ghost use Rattle.deep.specs.Records.{held, Place, Behind};
+ghost use Rattle.deep.specs.Records.{held};
 
 use faults::Fault;
-use stores::{Binding, Cells, Store};
+use stores::{Binding, Cells, Stack, Store, check_variable};
 
-// A store that goes through one list. The first `free` records are unused; the bindings stand behind them, newest first.
+// A store that goes through one list.
 #[derive(Drop)]
 pub struct Deep<'a, T: Copy> {
-    records: &'a mut [Binding<T>],
-    free: usize,
+    bindings: Stack<'a, Binding<T>>,
     top: Cells<T>,
-    ghost within: { free ≤ length records.now },
 }
 
 impl<'a, T: Copy> Deep<'a, T> {
     pub fn over(records: &'a mut [Binding<T>]) -> Self
-        ensures { held result.records.now result.free result.top.things ≡ new_store T (length records.old) }
+        ensures { held result.bindings result.top.things ≡ new_store T (length records.old) }
     {
-        let free = records.len();
+        let bindings = Stack::over(records);
         let top = Cells::filled(None);
-        Deep { records, free, top }
+        Deep { bindings, top }
     }
 
-    // which record holds the newest binding of `variable`
-    fn newest(&self, variable: u8) -> Option<usize>
-        ensures { Behind variable self.now.records.now self.now.free result }
+    // the newest binding of `variable`, and its place among the bindings
+    fn newest(&self, variable: u8) -> Option<(usize, Binding<T>)>
+        ensures place { option_map (λ p. p.0) result ≡ position (λ b. b.variable == variable) self.now.bindings.items }
+        ensures binding { option_map (λ p. p.1) result ≡ find (λ b. b.variable == variable) self.now.bindings.items }
     {
-        match place(&self.records[self.free..], variable) {
-            Some(i) => Some(self.free + i),
-            None => None,
-        }
+        let bindings = self.bindings.as_slice();
+        let place = place(bindings, variable)?;
+        Some((place, bindings[place]))
     }
 }
 
-// where among `bindings`, the newest of which stands first, the newest of `variable` stands
 fn place<T: Copy>(bindings: &[Binding<T>], variable: u8) -> Option<usize>
-    ensures { Place variable bindings.now result }
+    ensures { result ≡ position (λ b. b.variable == variable) bindings.now }
 {
-    for i in 0..bindings.len() {
-        if bindings[i].variable == variable {
-            return Some(i);
-        }
-    }
-    None
+    bindings.iter().position(|b| b.variable == variable)
 }
 
 impl<'a, T: Copy> Store for Deep<'a, T> {
     type Thing = T;
 
-    ghost meaning = { λ s. held s.records.now s.free s.top.things };
+    ghost meaning = { λ s. held s.bindings s.top.things };
 
     fn clear(&mut self) {
         self.top = Cells::filled(None);
-        self.free = self.records.len();
+        self.bindings.clear();
     }
 
     fn count(&self) -> usize {
-        self.records.len() - self.free
+        self.bindings.len()
     }
 
     fn limit(&self) -> usize {
-        self.records.len()
+        self.bindings.capacity()
     }
 
     fn bind(&mut self, variable: u8, thing: T, birthplace: u8) -> Result<(), Fault> {
-        if variable > 31 {
-            return Err(Fault::NoSuchVariable);
-        }
-        if self.free == 0 {
-            return Err(Fault::StoreFull);
-        }
-        let at = self.free - 1;
-        self.records[at] = Binding {
+        check_variable(variable)?;
+        self.bindings.push(Binding {
             variable,
             thing,
             birthplace,
-        };
-        self.free = at;
-        Ok(())
+        })
     }
 
     fn unbind(&mut self) -> Result<(), Fault> {
-        if self.free == self.records.len() {
-            return Err(Fault::StoreEmpty);
-        }
-        self.free += 1;
+        self.bindings.pop()?;
         Ok(())
     }
 
     fn look(&self, variable: u8) -> Result<Option<(T, u8)>, Fault> {
-        if variable > 31 {
-            return Err(Fault::NoSuchVariable);
-        }
-        if let Some(i) = self.newest(variable) {
-            // through a slice of its own: the field is lent for writing
-            let all = &self.records[0..];
-            let found = all[i];
-            return Ok(Some((found.thing, found.birthplace)));
-        }
-        match self.top.at(variable) {
-            Some(thing) => Ok(Some((thing, 0))),
-            None => Ok(None),
+        check_variable(variable)?;
+        match self.newest(variable) {
+            Some((_, bound)) => Ok(Some((bound.thing, bound.birthplace))),
+            None => Ok(self.top.outermost(variable)),
         }
     }
 
     fn put(&mut self, variable: u8, thing: T) -> Result<(), Fault> {
-        if variable > 31 {
-            return Err(Fault::NoSuchVariable);
-        }
-        if let Some(i) = self.newest(variable) {
-            self.records[i].thing = thing;
-        } else {
-            self.top.give(variable, thing);
+        check_variable(variable)?;
+        match self.newest(variable) {
+            Some((place, binding)) => self.bindings.set(place, Binding { thing, ..binding }),
+            None => self.top.give(variable, thing),
         }
         Ok(())
     }

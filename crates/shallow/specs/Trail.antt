@@ -1,7 +1,8 @@
 -- Bindings kept as cells, one for each variable, and a trail of what was covered, newest first.
-use Rattle.std.specs.Prelude.{ℕ, Bool, true, not, ◌&&◌, List, [], ◌∷◌, length, drop, is_some, Some, None, Option, nat_le, slice_index_or, slice_set}
+use Rattle.std.specs.Prelude.{ℕ, Bool, true, not, ◌&&◌, List, [], ◌∷◌, is_some, Some, None, Option, nat_le, slice_index_or, slice_set}
 use Rattle.stores.specs.declared.binding.Binding.{Binding}
 use Rattle.shallow.specs.declared.saved.Saved.{Saved}
+use Rattle.stores.specs.Stack.{Stacked, capacity_of}
 use Rattle.stores.specs.Meaning.{Meaning}
 
 -- the binding of x that a cell holds, in front of bs
@@ -26,6 +27,6 @@ sound cells (s ∷ ss) =
     nat_le s.variable 31
     && (is_some (slice_index_or cells s.variable None) && sound (slice_set cells s.variable s.covered) ss)
 
--- what cells and the trail behind the first n of ss mean
-abbrev pub unwound : {T : Type 0} → List (Option (T × ℕ)) → List (Saved T) → ℕ → List (Option T) → Meaning T
-unwound cells ss n top = record { bindings = unwind cells (drop n ss); top = top; limit = length ss }
+-- what cells, a trail and a top level mean
+abbrev pub unwound : {T : Type 0} → List (Option (T × ℕ)) → Stacked (Saved T) → List (Option T) → Meaning T
+unwound cells trail top = record { bindings = unwind cells trail.items; top = top; limit = capacity_of trail }

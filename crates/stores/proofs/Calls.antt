@@ -1,10 +1,16 @@
 -- What a store shows to meet the equation of a call, however it keeps its bindings.
-use Rattle.std.proofs.Common.{◌≡◌, ℕ, ◌<◌, ◌≤◌, cond, eqb, ltb, List, ◌∷◌, set, is_some, Some, None, Ok, Err, Option, sym, ap, ◌∙◌}
+use Rattle.std.proofs.Common.{◌≡◌, ℕ, ◌<◌, ◌≤◌, cond, eqb, ltb, List, ◌∷◌, set, is_some, Some, None, Ok, Err, Option, Result, sym, ap, ◌∙◌, arith}
 use Rattle.std.proofs.lemmas.Bool.{le-ltb, lt-ltb, eq-eqb, ne_eqb, cond-true, cond-false}
+use Rattle.std.proofs.lemmas.Bool.Decides.{nat_tests}
+use Rattle.faults.specs.declared.fault.Fault.{Fault}
 use Rattle.faults.specs.declared.fault.Fault.TheVariants.{NoSuchVariable, StoreFull}
 use Rattle.stores.specs.declared.binding.Binding.{Binding}
 use Rattle.stores.specs.Meaning.{Meaning, count_of, bound, bind_of, unbind_of, newest, seen, look_of, replaced, assigned, put_of}
 use Rattle.stores.proofs.Bindings.{replaced_none}
+
+-- what passes the check is a variable
+pub known : (x : ℕ) (r : Result (Unit {0}) Fault) → r ≡ cond (ltb 31 x) (Err NoSuchVariable) (Ok tt) → r ≡ Ok tt → x ≤ 31
+known x r is ok = grind (arith, nat_tests)
 
 module _ {T : Type 0} (m : Meaning T) where
   pub bind_high : (x : ℕ) (t : T) (b : ℕ) → 31 < x → (Err NoSuchVariable, m) ≡ bind_of m x t b

@@ -1,3 +1,4 @@
+pub mod Stacks
 pub mod Bindings
 pub mod Calls
 pub mod Laws

@@ -1,4 +1,5 @@
 ghost use Rattle.std.specs.Prelude.{◌≡◌, length, replicate, Some, None, slice_index_or, slice_set};
+ghost use Rattle.stores.specs.Meaning.{outermost};
 
 // For each of the variables 0 to 31 a thing or none; other variables have nothing and take nothing.
 #[derive(Drop)]
@@ -19,17 +20,21 @@ impl<T: Copy> Cells<T> {
     pub fn at(&self, variable: u8) -> Option<T>
         ensures { result ≡ slice_index_or self.now.things variable None }
     {
-        if variable > 31 {
-            return None;
-        }
-        self.things[variable as usize]
+        self.things.get(usize::from(variable)).copied().flatten()
+    }
+
+    // what `variable` shows while it is not bound: its thing, with birthplace 0
+    pub fn outermost(&self, variable: u8) -> Option<(T, u8)>
+        ensures { result ≡ outermost (slice_index_or self.now.things variable None) }
+    {
+        self.at(variable).map(|thing| (thing, 0))
     }
 
     pub fn set(&mut self, variable: u8, thing: Option<T>)
         ensures { self.new.things ≡ slice_set self.old.things variable thing }
     {
         if variable < 32 {
-            self.things[variable as usize] = thing;
+            self.things[usize::from(variable)] = thing;
         }
     }
 

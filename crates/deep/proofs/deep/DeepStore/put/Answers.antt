@@ -1,12 +1,18 @@
-use Rattle.deep.proofs.Places.{put_at, put_top}
+use Rattle.std.proofs.Common.{Ok, ap, ◌∙◌}
+use Rattle.stores.proofs.Calls.{known}
+use Rattle.deep.specs.Records.{held}
+use Rattle.deep.proofs.Places.{put_bound, put_free}
 use Rattle.deep.proofs.deep.DeepStore.put.Goals as goal
 
 pub returns-in-Some : goal.returns-in-Some
 returns-in-Some g c =
     let s = c.args.self.now in
-    put_at s.records.now s.free s.top.things s.within c.args.variable c.in-Some.i c.index-self-i.result c.if-variable-gt31.false c.in-Some.ensures c.args.thing
+    ap (λ v. (Ok tt, held v s.top.things)) c.set.ensures
+    ∙ put_bound s.bindings s.top.things c.args.variable (known _ _ c.check_variable.ensures c.in_ok-check_variable.was) c.in-Some.place c.in-Some.binding c.args.thing
+    c.in-Some.ensures.place c.in-Some.ensures.binding
 
-pub returns-in_default : goal.returns-in_default
-returns-in_default g c =
+pub returns-in-None : goal.returns-in-None
+returns-in-None g c =
     let s = c.args.self.now in
-    put_top s.records.now s.free s.top.things s.within c.args.variable c.args.thing c.give.new.self.things c.if-variable-gt31.false c.in_default.ensures c.give.ensures
+    ap (λ v. (Ok tt, held s.bindings v)) c.give.ensures
+    ∙ put_free s.bindings s.top.things c.args.variable (known _ _ c.check_variable.ensures c.in_ok-check_variable.was) c.args.thing c.in-None.ensures.binding

@@ -1,33 +1,28 @@
-use Rattle.std.proofs.Common.{◌-◌, ◌<◌, length, arith, length-set, rules}
+use Rattle.std.proofs.Common.{Err, ap, ◌∙◌}
+use Rattle.std.proofs.lemmas.Result.{err_from_is_err_and}
 use Rattle.shallow.specs.Trail.{unwound}
-use Rattle.stores.proofs.Calls.{bind_high}
-use Rattle.shallow.proofs.Trails.{bind_full, bind_sound, bind_room}
+use Rattle.stores.proofs.Calls.{known}
+use Rattle.shallow.proofs.Trails.{bind_refused, bind_sound, bind_done}
 use Rattle.shallow.proofs.shallow.ShallowStore.bind.Goals as goal
 
-pub returns-then-variable-gt31 : goal.returns-then-variable-gt31
-returns-then-variable-gt31 g c =
+pub returns-in_err-push : goal.returns-in_err-push
+returns-in_err-push g c =
     let s = c.args.self.now in
-    bind_high (unwound s.cells.things s.trail.now s.free s.top.things) c.args.variable c.args.thing c.args.birthplace c.if-variable-gt31.true
+    let p = err_from_is_err_and c.from_residual-in_err-push.result c.from_residual-in_err-push.ensures.1 in
+    ap (λ v. (v, unwound s.cells.things c.push.new.self s.top.things)) (p.1 ∙ ap Err p.2)
+    ∙ bind_refused s.cells.things s.trail s.top.things s.sound c.args.variable c.args.thing c.args.birthplace _ _ _
+    (known _ _ c.check_variable.ensures c.in_ok-check_variable.was) c.at-covered.ensures c.push.ensures _ c.in_err-push.was
 
-pub returns-then-self-eq0 : goal.returns-then-self-eq0
-returns-then-self-eq0 g c =
-    let s = c.args.self.now in
-    bind_full s.cells.things s.trail.now s.free s.top.things s.within s.sound c.args.variable c.args.thing c.args.birthplace c.if-variable-gt31.false c.if-self-eq0.true
-
-pub offset_bounds-self-at : goal.offset_bounds-self-at
-offset_bounds-self-at g c = let h : c.args.self.now.free - 1 < length c.args.self.now.trail.now = omega arith in search rules
-
-pub invariant_of-self : goal.invariant_of-self
-invariant_of-self g c =
+pub invariant_of-self-2 : goal.invariant_of-self-2
+invariant_of-self-2 g c =
     let s = c.args.self.now in
     record {
-      within = simp length-set (omega arith);
-      sound = bind_sound s.cells.things s.trail.now s.free s.top.things s.within s.sound c.args.variable c.args.thing c.args.birthplace c.at-covered.result _
-          c.if-variable-gt31.false c.if-self-eq0.false s.cells.sized c.at-covered.ensures c.give.ensures;
+      sound = bind_sound s.cells.things s.trail s.top.things s.sound c.args.variable c.args.thing c.args.birthplace _ _ _
+          (known _ _ c.check_variable.ensures c.in_ok-check_variable.was) c.at-covered.ensures c.push.ensures c.in_ok-push.was _ s.cells.sized c.give.ensures;
     }
 
 pub returns : goal.returns
 returns g c =
     let s = c.args.self.now in
-    bind_room s.cells.things s.trail.now s.free s.top.things s.within s.sound c.args.variable c.args.thing c.args.birthplace c.at-covered.result _
-    c.if-variable-gt31.false c.if-self-eq0.false s.cells.sized c.at-covered.ensures c.give.ensures
+    bind_done s.cells.things s.trail s.top.things s.sound c.args.variable c.args.thing c.args.birthplace _ _ _
+    (known _ _ c.check_variable.ensures c.in_ok-check_variable.was) c.at-covered.ensures c.push.ensures c.in_ok-push.was _ s.cells.sized c.give.ensures

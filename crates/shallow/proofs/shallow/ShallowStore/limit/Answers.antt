@@ -1,8 +1,5 @@
-use Rattle.std.proofs.Common.{refl}
 use Rattle.shallow.proofs.Trails.{formed}
 use Rattle.shallow.proofs.shallow.ShallowStore.limit.Goals as goal
 
-pub returns : goal.returns
-returns g c =
-    let s = c.args.self.now in
-    record { answer = refl; formed = formed s.cells.things s.trail.now s.free s.top.things s.within s.sound s.top.sized }
+pub returns-clause-formed : goal.returns-clause-formed
+returns-clause-formed g c = let s = c.args.self.now in formed s.cells.things s.trail s.top.things s.sound s.top.sized
