@@ -33,7 +33,7 @@ newest_find x (b ∷ bs) =
     [ true ↦ refl | false ↦ newest_find x bs ]
 
 replaced_find : {T : Type 0} (x : ℕ) (t : T) (bs : List (Binding T)) (b : Binding T) → Some b ≡ find (of x) bs → replaced x t bs ≡ set bs (position_or_len (of x) bs) (with_thing b t)
-replaced_find x t [] b h = absurd (let z : ◌≡◌ {A = ℕ} 0 1 = cc in omega arith)
+replaced_find x t [] b h = absurd (cc)
 replaced_find {T} x t (a ∷ bs) b h =
     let P : Bool → Type 0 = λ v. Some b ≡ cond v (Some a) (find (of x) bs) → cond v (with_thing a t ∷ bs) (a ∷ replaced x t bs) ≡ set (a ∷ bs) (cond (not v) (1 + position_or_len (of x) bs) 0) (with_thing b t) in
     let both : (v : Bool) → P v = λ v. elim v as P [ true ↦ λ e. (cc) | false ↦ λ e. ap (λ l. a ∷ l) (replaced_find x t bs b e) ∙ ap (λ k. set (a ∷ bs) k (with_thing b t)) (let more : suc (position_or_len (of x) bs) ≡ 1 + position_or_len (of x) bs = omega arith in more) ] in

@@ -5,11 +5,12 @@ use Rattle.faults.specs.declared.fault.Fault.TheVariants.{StoreFull, StoreEmpty}
 use Rattle.stores.specs.declared.binding.Binding.{Binding}
 use Rattle.shallow.specs.declared.saved.Saved.{Saved}
 use Rattle.stores.specs.Stack.{Stacked, capacity_of, new_stack, push_of, pop_of}
-use Rattle.stores.specs.Meaning.{Formed, new_store, bound, bind_of, unbind_of, look_of, or_else, outermost, put_of}
+use Rattle.stores.specs.Meaning.{new_store, bound, bind_of, unbind_of, look_of, or_else, outermost, put_of}
 use Rattle.shallow.specs.Trail.{ahead, unwind, unwound, sound}
 use Rattle.stores.proofs.Stacks.{push_done, push_refused, pop_done, pop_refused}
 use Rattle.stores.proofs.Calls as calls
-use Rattle.shallow.proofs.Unwinds.{vacant_none, Parts, sound_parts, newest_unwind, length_unwind, sound_new, unwind_new, unwind_put, sound_put}
+use Rattle.shallow.specs.Lengths.{Parts, sound_parts, length_unwind}
+use Rattle.shallow.proofs.Unwinds.{vacant_none, newest_unwind, sound_new, unwind_new, unwind_put, sound_put}
 
 -- nothing bound
 module _ {T : Type 0} (cells : List (Option (T × ℕ))) (s : Stacked (Saved T)) (n : ℕ) (is : s ≡ new_stack (Saved T) n) where
@@ -26,9 +27,6 @@ module _ {T : Type 0} (cells : List (Option (T × ℕ))) (s : Stacked (Saved T))
 module _ {T : Type 0} (cells : List (Option (T × ℕ))) (s : Stacked (Saved T)) (top : List (Option T)) (good : sound cells s.items ≡ true) where
   pub counted : length s.items ≡ length (unwind cells s.items)
   counted = sym (length_unwind cells s.items good)
-
-  pub formed : length top ≡ 32 → Formed (unwound cells s top)
-  formed size = let l = counted in record { room = omega arith; places = size }
 
   -- ---- look
   pub look_cell : (x : ℕ) (p : T × ℕ) → x ≤ 31 → Some p ≡ get_or cells x None → Ok (Some p) ≡ look_of (unwound cells s top) x
@@ -88,7 +86,7 @@ module _ {T : Type 0} (cells : List (Option (T × ℕ))) (s : Stacked (Saved T))
 
       off : (o : Option (T × ℕ)) (bs : List (Binding T)) (n : ℕ) → is_some o ≡ true
           → (Ok tt, record { bindings = bs; top = top; limit = n }) ≡ unbind_of (record { bindings = ahead d.variable o bs; top = top; limit = n })
-      off None bs n h = absurd (let z : ◌≡◌ {A = ℕ} 0 1 = cc in omega arith)
+      off None bs n h = absurd (cc)
       off (Some p) bs n h = refl
 
       pub unbind_done : (Ok tt, unwound cells' s' top) ≡ unbind_of (unwound cells s top)

@@ -1,11 +1,12 @@
 -- The bindings that cells and a trail stand for, and how a new binding and an assignment change them.
-use Rattle.std.proofs.Common.{◌≡◌, ℕ, zero, suc, ◌<◌, ◌≤◌, true, leb, List, [], ◌∷◌, length, get_or, set, replicate, is_some, Some, None, Option, sym, refl, ap, ◌∙◌, ⊎_elim, arith, length-set}
+use Rattle.std.proofs.Common.{◌≡◌, ℕ, zero, suc, ◌<◌, ◌≤◌, true, List, [], ◌∷◌, length, get_or, set, replicate, is_some, Some, None, Option, sym, refl, ap, ◌∙◌, ⊎_elim, arith, length-set}
 use Rattle.std.proofs.lemmas.List.{get_or-set_same, get_or-set_other, set-set, set_comm, set-get_or}
-use Rattle.std.proofs.lemmas.Bool.{leb-true, le-leb, and_parts, and_from, cases_eq}
+use Rattle.std.proofs.lemmas.Bool.{le-leb, and_from, cases_eq}
 use Rattle.stores.specs.declared.binding.Binding.{Binding}
 use Rattle.shallow.specs.declared.saved.Saved.{Saved}
 use Rattle.stores.specs.Meaning.{newest, replaced}
 use Rattle.shallow.specs.Trail.{ahead, unwind, vacant, sound}
+use Rattle.shallow.specs.Lengths.{Parts, sound_parts}
 use Rattle.stores.proofs.Bindings.{newest_here, newest_past, replaced_here, replaced_past}
 
 -- ---- empty cells
@@ -13,7 +14,7 @@ vacant_at : {X : Type 0} (os : List (Option X)) → vacant os ≡ true → (x : 
 vacant_at [] h x = refl
 vacant_at (None ∷ os) h zero = refl
 vacant_at (None ∷ os) h (suc x) = vacant_at os h x
-vacant_at (Some a ∷ os) h x = absurd (let z : ◌≡◌ {A = ℕ} 0 1 = cc in omega arith)
+vacant_at (Some a ∷ os) h x = absurd (cc)
 
 pub vacant_none : (X : Type 0) (n : ℕ) → vacant {X = X} (replicate n None) ≡ true
 vacant_none X zero = refl
@@ -22,7 +23,7 @@ vacant_none X (suc n) = vacant_none X n
 -- ---- the binding in a cell of v, ahead of others
 module _ {T : Type 0} (x v : ℕ) (bs : List (Binding T)) where
   newest_ahead : (o : Option (T × ℕ)) → is_some o ≡ true → v ≡ x → newest x (ahead v o bs) ≡ o
-  newest_ahead None h e = absurd (let z : ◌≡◌ {A = ℕ} 0 1 = cc in omega arith)
+  newest_ahead None h e = absurd (cc)
   newest_ahead (Some p) h e = newest_here x (record { variable = v; thing = p.0; birthplace = p.1 }) bs e
 
   newest_behind : (o : Option (T × ℕ)) → (v ≡ x → ⊥) → newest x (ahead v o bs) ≡ newest x bs
@@ -36,23 +37,7 @@ module _ {T : Type 0} (x v : ℕ) (bs : List (Binding T)) where
   replaced_behind t None ne = refl
   replaced_behind t (Some p) ne = replaced_past x (record { variable = v; thing = p.0; birthplace = p.1 }) bs t ne
 
-length_ahead : {T : Type 0} (v : ℕ) (bs : List (Binding T)) (o : Option (T × ℕ)) → is_some o ≡ true → length (ahead v o bs) ≡ suc (length bs)
-length_ahead v bs None h = absurd (let z : ◌≡◌ {A = ℕ} 0 1 = cc in omega arith)
-length_ahead v bs (Some p) h = refl
-
--- ---- a sound trail, its newest record and the rest
-pub record Parts {T : Type 0} (cells : List (Option (T × ℕ))) (s : Saved T) (ss : List (Saved T)) : Type 0 where
-  pub low : s.variable ≤ 31
-  pub there : is_some (get_or cells s.variable None) ≡ true
-  pub rest : sound (set cells s.variable s.covered) ss ≡ true
-
-pub sound_parts : {T : Type 0} (cells : List (Option (T × ℕ))) (s : Saved T) (ss : List (Saved T)) → sound cells (s ∷ ss) ≡ true → Parts cells s ss
-unfolding sound
-sound_parts cells s ss h =
-    let p = and_parts (leb s.variable 31) _ h in
-    let q = and_parts (is_some (get_or cells s.variable None)) _ p.1 in
-    record { low = leb-true _ _ p.0; there = q.0; rest = q.1 }
-
+-- ---- a sound trail
 sound_from : {T : Type 0} (cells : List (Option (T × ℕ))) (s : Saved T) (ss : List (Saved T)) → Parts cells s ss → sound cells (s ∷ ss) ≡ true
 unfolding sound
 sound_from cells s ss p = and_from _ _ (le-leb _ _ p.low) (and_from _ _ p.there p.rest)
@@ -70,13 +55,6 @@ newest_unwind x cells (s ∷ ss) h =
     newest_behind x v _ (get_or cells v None) ne ∙ newest_unwind x (set cells v s.covered) ss p.rest
     ∙ get_or-set_other cells v x s.covered None (λ e. ne (sym e)))
     (cases_eq v x)
-
-pub length_unwind : {T : Type 0} (cells : List (Option (T × ℕ))) (ss : List (Saved T)) → sound cells ss ≡ true → length (unwind cells ss) ≡ length ss
-unfolding unwind sound
-length_unwind cells [] h = refl
-length_unwind cells (s ∷ ss) h =
-    let p = sound_parts cells s ss h in
-    length_ahead s.variable _ (get_or cells s.variable None) p.there ∙ ap suc (length_unwind (set cells s.variable s.covered) ss p.rest)
 
 -- ---- a new binding of x
 module _ {T : Type 0} (x : ℕ) (cells : List (Option (T × ℕ))) (ss : List (Saved T)) (q : T × ℕ) (low : x ≤ 31) (size : length cells ≡ 32) where
@@ -124,7 +102,7 @@ unwind_put x t p cells (s ∷ ss) lt there h =
 pub sound_put : {T : Type 0} (x : ℕ) (q p : T × ℕ) (cells : List (Option (T × ℕ))) (ss : List (Saved T)) → x < length cells → get_or cells x None ≡ Some p → sound cells ss ≡ true
     → sound (set cells x (Some q)) ss ≡ true
 unfolding sound
-sound_put x q p cells [] lt there h = let no_thing = vacant_at cells h x in absurd (let z : ◌≡◌ {A = ℕ} 0 1 = cc in omega arith)
+sound_put x q p cells [] lt there h = let no_thing = vacant_at cells h x in absurd (cc)
 sound_put x q p cells (s ∷ ss) lt there h =
     let h' = sound_parts cells s ss h in
     let v = s.variable in

@@ -1,11 +1,11 @@
 -- What a store shows to meet the equation of a call, however it keeps its bindings.
-use Rattle.std.proofs.Common.{◌≡◌, ℕ, ◌<◌, ◌≤◌, cond, eqb, ltb, List, ◌∷◌, set, is_some, Some, None, Ok, Err, Option, Result, sym, ap, ◌∙◌, arith}
-use Rattle.std.proofs.lemmas.Bool.{le-ltb, lt-ltb, eq-eqb, ne_eqb, cond-true, cond-false}
+use Rattle.std.proofs.Common.{◌≡◌, ℕ, ◌≤◌, cond, eqb, ltb, List, set, is_some, Some, None, Ok, Err, Option, Result, sym, ap, ◌∙◌, arith}
+use Rattle.std.proofs.lemmas.Bool.{le-ltb, eq-eqb, ne_eqb, cond-true, cond-false}
 use Rattle.std.proofs.lemmas.Bool.Decides.{nat_tests}
 use Rattle.faults.specs.declared.fault.Fault.{Fault}
 use Rattle.faults.specs.declared.fault.Fault.TheVariants.{NoSuchVariable, StoreFull}
 use Rattle.stores.specs.declared.binding.Binding.{Binding}
-use Rattle.stores.specs.Meaning.{Meaning, count_of, bound, bind_of, unbind_of, newest, seen, look_of, replaced, assigned, put_of}
+use Rattle.stores.specs.Meaning.{Meaning, count_of, bound, bind_of, newest, seen, look_of, replaced, assigned, put_of}
 use Rattle.stores.proofs.Bindings.{replaced_none}
 
 -- what passes the check is a variable
@@ -13,9 +13,6 @@ pub known : (x : ℕ) (r : Result (Unit {0}) Fault) → r ≡ cond (ltb 31 x) (E
 known x r is ok = grind (arith, nat_tests)
 
 module _ {T : Type 0} (m : Meaning T) where
-  pub bind_high : (x : ℕ) (t : T) (b : ℕ) → 31 < x → (Err NoSuchVariable, m) ≡ bind_of m x t b
-  bind_high x t b high = sym (cond-true (ltb 31 x) _ _ (lt-ltb 31 x high))
-
   pub bind_full : (x : ℕ) (t : T) (b : ℕ) → x ≤ 31 → count_of m ≡ m.limit → (Err StoreFull, m) ≡ bind_of m x t b
   bind_full x t b low full =
       sym (cond-false (ltb 31 x) _ _ (le-ltb 31 x low) ∙ cond-true (eqb (count_of m) m.limit) _ _ (eq-eqb _ _ full))
@@ -25,14 +22,8 @@ module _ {T : Type 0} (m : Meaning T) where
       ap (λ v. (Ok tt, v)) is
       ∙ sym (cond-false (ltb 31 x) _ _ (le-ltb 31 x low) ∙ cond-false (eqb (count_of m) m.limit) _ _ (ne_eqb _ _ room))
 
-  pub look_high : (x : ℕ) → 31 < x → Err NoSuchVariable ≡ look_of m x
-  look_high x high = sym (cond-true (ltb 31 x) _ _ (lt-ltb 31 x high))
-
   pub look_low : (x : ℕ) (o : Option (T × ℕ)) → x ≤ 31 → o ≡ seen m x → Ok o ≡ look_of m x
   look_low x o low is = ap Ok is ∙ sym (cond-false (ltb 31 x) _ _ (le-ltb 31 x low))
-
-  pub put_high : (x : ℕ) (t : T) → 31 < x → (Err NoSuchVariable, m) ≡ put_of m x t
-  put_high x t high = sym (cond-true (ltb 31 x) _ _ (lt-ltb 31 x high))
 
 module _ {T : Type 0} (bs bs' : List (Binding T)) (top top' : List (Option T)) (n n' : ℕ) (same : n' ≡ n) where
   abbrev m : Meaning T
@@ -40,11 +31,6 @@ module _ {T : Type 0} (bs bs' : List (Binding T)) (top top' : List (Option T)) (
 
   abbrev m' : Meaning T
   m' = record { bindings = bs'; top = top'; limit = n' }
-
-  pub unbind_one : (b : Binding T) → bs ≡ b ∷ bs' → top' ≡ top → (Ok tt, m') ≡ unbind_of m
-  unbind_one b list e =
-      let is : m' ≡ record { bindings = bs'; top = top; limit = n } = cc in
-      ap (λ v. (Ok tt, v)) is ∙ ap (λ l. unbind_of (record { bindings = l; top = top; limit = n })) (sym list)
 
   module _ (x : ℕ) (t : T) (low : x ≤ 31) where
     -- while a binding of x stands

@@ -1,10 +1,10 @@
 -- What a caller learns from the equation of a call; then the laws of `specs/Laws`.
 use Rattle.std.proofs.Common.{◌≡◌, ℕ, ◌<◌, ◌≤◌, cond, eqb, ltb, List, [], ◌∷◌, ◌++◌, length, get_or, set, is_some, Some, None, Ok, Err, Option, Result, sym, refl, ap, ◌∙◌, ⊎_elim, arith, length-set}
 use Rattle.std.proofs.lemmas.List.{get_or-set_same, get_or-set_other}
-use Rattle.std.proofs.lemmas.Bool.{cond-true, cond-false, cond_both, le-ltb, lt-ltb, eqb-false, cases_eq}
+use Rattle.std.proofs.lemmas.Bool.{cond-false, cond_both, le-ltb, eqb-false, cases_eq}
 use Rattle.std.proofs.lemmas.Bool.Decides.{nat_tests}
 use Rattle.faults.specs.declared.fault.Fault.{Fault}
-use Rattle.faults.specs.declared.fault.Fault.TheVariants.{NoSuchVariable, StoreFull, StoreEmpty}
+use Rattle.faults.specs.declared.fault.Fault.TheVariants.{NoSuchVariable, StoreEmpty}
 use Rattle.stores.specs.declared.binding.Binding.{Binding}
 use Rattle.stores.specs.Meaning.{Meaning, Formed, count_of, clear_of, bound, bind_of, unbound, unbind_of, newest, outermost, or_else, seen, look_of, replaced, assigned, put_of}
 use Rattle.stores.specs.Laws.{Free, Newest, birthplace_in, LookNewest, BindShows, UnbindUndoes, PutReplaces, PutTops, PutShows, Lawful}
@@ -25,18 +25,6 @@ module _ {T : Type 0} (m m' : Meaning T) (x : ℕ) (t : T) (b : ℕ) (r : Result
   pub bind_accepts : x ≤ 31 → count_of m < m.limit → r ≡ Ok tt
   bind_accepts low room = grind (arith, nat_tests)
 
-  -- an unbind right after it gives the meaning back
-  pub bind_unbind : (m'' : Meaning T) (r' : Result (Unit {0}) Fault) → r ≡ Ok tt → (r', m'') ≡ unbind_of m' → (r' ≡ Ok tt) × (m'' ≡ m)
-  bind_unbind m'' r' ok off =
-      let e : (r', m'') ≡ (Ok tt, m) = off ∙ ap (λ v. unbind_of v) (bind_done ok).0 in
-      (ap (λ p. p.0) e, ap (λ p. p.1) e)
-
-  pub bind_full : x ≤ 31 → count_of m ≡ m.limit → r ≡ Err StoreFull
-  bind_full low full = grind (arith, nat_tests)
-
-  pub bind_high : 31 < x → r ≡ Err NoSuchVariable
-  bind_high high = grind (arith, nat_tests)
-
 module _ {T : Type 0} (m m' : Meaning T) (r : Result (Unit {0}) Fault) (is : (r, m') ≡ unbind_of m) where
   -- of a list with a binding in front
   pub unbind_done : (b : Binding T) (bs : List (Binding T)) → m.bindings ≡ b ∷ bs → (r ≡ Ok tt) × (m' ≡ record { bindings = bs; top = m.top; limit = m.limit })
@@ -53,7 +41,7 @@ module _ {T : Type 0} (m m' : Meaning T) (r : Result (Unit {0}) Fault) (is : (r,
           (ap (λ p. p.1) q ∙ ap (λ l. record { bindings = l; top = m.top; limit = m.limit }) (sym list), list)
       from (b ∷ bs) list =
           let ok : r ≡ Ok tt = (unbind_done b bs list).0 in
-          absurd (let z : ◌≡◌ {A = ℕ} 0 1 = cc in omega arith)
+          absurd (cc)
 
 module _ {T : Type 0} (m m' : Meaning T) (x : ℕ) (t : T) (r : Result (Unit {0}) Fault) (is : (r, m') ≡ put_of m x t) where
   pub put_done : r ≡ Ok tt → (m' ≡ assigned m x t) × (x ≤ 31)
@@ -62,15 +50,9 @@ module _ {T : Type 0} (m m' : Meaning T) (x : ℕ) (t : T) (r : Result (Unit {0}
   pub put_refused : (e : Fault) → r ≡ Err e → (m' ≡ m) × (31 < x)
   put_refused e err = grind (arith, nat_tests)
 
-  pub put_accepts : x ≤ 31 → r ≡ Ok tt
-  put_accepts low = grind (arith, nat_tests)
-
 module _ {T : Type 0} (m : Meaning T) (x : ℕ) where
   pub look_low : x ≤ 31 → look_of m x ≡ Ok (seen m x)
   look_low low = cond-false (ltb 31 x) _ _ (le-ltb 31 x low)
-
-  pub look_high : 31 < x → look_of m x ≡ Err NoSuchVariable
-  look_high high = cond-true (ltb 31 x) _ _ (lt-ltb 31 x high)
 
   pub look_done : (o : Option (T × ℕ)) → look_of m x ≡ Ok o → (o ≡ seen m x) × (x ≤ 31)
   look_done o is = grind (arith, nat_tests)
@@ -124,7 +106,7 @@ put_tops m m' x t free is =
     (put_done m m' x t (Ok tt) is refl).0 ∙ after
 
 newest_replaced : {T : Type 0} (x : ℕ) (t : T) (bs : List (Binding T)) (p : T × ℕ) → newest x bs ≡ Some p → newest x (replaced x t bs) ≡ Some (t, p.1)
-newest_replaced x t [] p h = absurd (let z : ◌≡◌ {A = ℕ} 0 1 = cc in omega arith)
+newest_replaced x t [] p h = absurd (cc)
 newest_replaced x t (b ∷ bs) p h =
     ⊎_elim
     (λ e.

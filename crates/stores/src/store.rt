@@ -4,7 +4,6 @@ ghost use Rattle.stores.specs.Meaning.{Meaning, Formed, clear_of, count_of, bind
 use faults::Fault;
 
 // A store of bindings. Each call is one equation over its answer and what the store means after it.
-// A question also tells that the meaning is well formed; the calls that change it keep it so (`StaysFormed` of specs/Laws).
 pub trait Store {
     type Thing: Copy;
 
@@ -14,12 +13,10 @@ pub trait Store {
         ensures { meaning self.new ≡ clear_of (meaning self.old) };
 
     fn count(&self) -> usize
-        ensures answer { result ≡ count_of (meaning self.now) }
-        ensures formed { Formed (meaning self.now) };
+        ensures answer { result ≡ count_of (meaning self.now) };
 
     fn limit(&self) -> usize
-        ensures answer { result ≡ (meaning self.now).limit }
-        ensures formed { Formed (meaning self.now) };
+        ensures answer { result ≡ (meaning self.now).limit };
 
     fn bind(&mut self, variable: u8, thing: Self::Thing, birthplace: u8) -> Result<(), Fault>
         ensures { (result, meaning self.new) ≡ bind_of (meaning self.old) variable thing birthplace };
@@ -28,9 +25,11 @@ pub trait Store {
         ensures { (result, meaning self.new) ≡ unbind_of (meaning self.old) };
 
     fn look(&self, variable: u8) -> Result<Option<(Self::Thing, u8)>, Fault>
-        ensures answer { result ≡ look_of (meaning self.now) variable }
-        ensures formed { Formed (meaning self.now) };
+        ensures answer { result ≡ look_of (meaning self.now) variable };
 
     fn put(&mut self, variable: u8, thing: Self::Thing) -> Result<(), Fault>
         ensures { (result, meaning self.new) ≡ put_of (meaning self.old) variable thing };
+
+    // What a store means is well formed, before and after each call.
+    ghost formed: { (store : Self) → Formed (meaning store) };
 }
