@@ -1,11 +1,10 @@
 -- What a store shows to meet the equation of a call, however it keeps its bindings.
-use Rattle.std.proofs.Common.{◌≡◌, ℕ, ◌≤◌, cond, eqb, ltb, List, set, is_some, Some, None, Ok, Err, Option, Result, sym, ap, ◌∙◌, arith}
-use Rattle.std.proofs.lemmas.Bool.{le-ltb, eq-eqb, ne_eqb, cond-true, cond-false}
+use Rattle.std.proofs.Common.{◌≡◌, ℕ, ◌≤◌, cond, ltb, List, set, Some, None, Ok, Err, Option, Result, arith}
 use Rattle.std.proofs.lemmas.Bool.Decides.{nat_tests}
 use Rattle.faults.specs.declared.fault.Fault.{Fault}
 use Rattle.faults.specs.declared.fault.Fault.TheVariants.{NoSuchVariable, StoreFull}
 use Rattle.stores.specs.declared.binding.Binding.{Binding}
-use Rattle.stores.specs.Meaning.{Meaning, count_of, bound, bind_of, newest, seen, look_of, replaced, assigned, put_of}
+use Rattle.stores.specs.Meaning.{Meaning, count_of, bound, bind_of, newest, seen, look_of, replaced, put_of}
 use Rattle.stores.proofs.Bindings.{replaced_none}
 
 -- what passes the check is a variable
@@ -14,16 +13,13 @@ known x r is ok = grind (arith, nat_tests)
 
 module _ {T : Type 0} (m : Meaning T) where
   pub bind_full : (x : ℕ) (t : T) (b : ℕ) → x ≤ 31 → count_of m ≡ m.limit → (Err StoreFull, m) ≡ bind_of m x t b
-  bind_full x t b low full =
-      sym (cond-false (ltb 31 x) _ _ (le-ltb 31 x low) ∙ cond-true (eqb (count_of m) m.limit) _ _ (eq-eqb _ _ full))
+  bind_full x t b low full = grind (arith, nat_tests)
 
   pub bind_room : (x : ℕ) (t : T) (b : ℕ) (m' : Meaning T) → x ≤ 31 → (count_of m ≡ m.limit → ⊥) → m' ≡ bound m x t b → (Ok tt, m') ≡ bind_of m x t b
-  bind_room x t b m' low room is =
-      ap (λ v. (Ok tt, v)) is
-      ∙ sym (cond-false (ltb 31 x) _ _ (le-ltb 31 x low) ∙ cond-false (eqb (count_of m) m.limit) _ _ (ne_eqb _ _ room))
+  bind_room x t b m' low room is = grind (arith, nat_tests)
 
   pub look_low : (x : ℕ) (o : Option (T × ℕ)) → x ≤ 31 → o ≡ seen m x → Ok o ≡ look_of m x
-  look_low x o low is = ap Ok is ∙ sym (cond-false (ltb 31 x) _ _ (le-ltb 31 x low))
+  look_low x o low is = grind (arith, nat_tests)
 
 module _ {T : Type 0} (bs bs' : List (Binding T)) (top top' : List (Option T)) (n n' : ℕ) (same : n' ≡ n) where
   abbrev m : Meaning T
@@ -35,15 +31,8 @@ module _ {T : Type 0} (bs bs' : List (Binding T)) (top top' : List (Option T)) (
   module _ (x : ℕ) (t : T) (low : x ≤ 31) where
     -- while a binding of x stands
     pub put_bound : (p : T × ℕ) → newest x bs ≡ Some p → bs' ≡ replaced x t bs → top' ≡ top → (Ok tt, m') ≡ put_of m x t
-    put_bound p there list e =
-        let keeps : cond (is_some (newest x bs)) top (set top x (Some t)) ≡ top = ap (λ o. cond (is_some o) top (set top x (Some t))) there in
-        let is : m' ≡ assigned m x t = cc in
-        ap (λ v. (Ok tt, v)) is ∙ sym (cond-false (ltb 31 x) _ _ (le-ltb 31 x low))
+    put_bound p there list e = grind (arith, nat_tests)
 
     -- while none stands
     pub put_top : newest x bs ≡ None → bs' ≡ bs → top' ≡ set top x (Some t) → (Ok tt, m') ≡ put_of m x t
-    put_top none list e =
-        let same_list : replaced x t bs ≡ bs = replaced_none x t bs none in
-        let takes : cond (is_some (newest x bs)) top (set top x (Some t)) ≡ set top x (Some t) = ap (λ o. cond (is_some o) top (set top x (Some t))) none in
-        let is : m' ≡ assigned m x t = cc in
-        ap (λ v. (Ok tt, v)) is ∙ sym (cond-false (ltb 31 x) _ _ (le-ltb 31 x low))
+    put_top none list e = grind (arith, nat_tests, replaced_none)

@@ -1,7 +1,7 @@
-use Rattle.std.proofs.Common.{Err, sym, ap, ◌∙◌}
+use Rattle.std.proofs.Common.{◌≡◌, Ok, Err, sym, ap, ◌∙◌}
 use Rattle.std.proofs.lemmas.Result.{err_from_is_err_and}
 use Rattle.stores.specs.Meaning.{shown_by}
-use Rattle.stores.proofs.Laws.{lawful, bind_refused, one_answer}
+use Rattle.stores.proofs.Laws.{lawful, bind_refused}
 use Rattle.stores.proofs.shadow.shadowed.Goals as goal
 
 pub returns-in_err-bind : goal.returns-in_err-bind
@@ -17,12 +17,11 @@ returns-in_err-bind g c =
 -- a binding stands, so it can be taken off
 pub returns-in_err-unbind : goal.returns-in_err-unbind
 returns-in_err-unbind g c =
-    absurd (one_answer c.unbind.result _ (
     let m = g.S.Store.meaning c.args.store.now in
     let m' = g.S.Store.meaning c.bind.new.self in
     let done = ap (λ r. (r, m')) (sym c.in_ok-bind.was) ∙ c.bind.ensures in
-    ap (λ q. q.0) (c.unbind.ensures ∙ (lawful g.row.S-Thing.Denot).unbind_undoes m m' c.args.variable c.args.thing c.args.birthplace done))
-    c.in_err-unbind.was)
+    let taken : c.unbind.result ≡ Ok tt = ap (λ q. q.0) (c.unbind.ensures ∙ (lawful g.row.S-Thing.Denot).unbind_undoes m m' c.args.variable c.args.thing c.args.birthplace done) in
+    absurd (cc (taken, c.in_err-unbind.was))
 
 pub returns : goal.returns
 returns g c =
