@@ -1,12 +1,11 @@
 -- The owner is the innermost binder; captured says that a function body lies between.
 use Rattle.std.proofs.Common.{◌≡◌, ℕ, zero, suc, ◌+◌, ◌<◌, ◌≤◌, Bool, true, false, not, eqb, ◌⊎◌, is_some, Some, None, Option, sym, refl, ap, ◌∙◌, subst, inl, inr, arith}
-use Rattle.std.proofs.lemmas.Bool.{cases_Bool, cases_eq, cond-true, cond-false, and_parts, and_from, or_cases, or_left, or_right, eqb-true, eqb-false, eq-eqb, ne_eqb, not-true, not_from_false}
+use Rattle.std.proofs.lemmas.Bool.{false≢true, false_from_ne_true, cases_Bool, cases_eq, cond-true, cond-false, and_parts, and_from, or_cases, or_left, or_right, eqb-true, eqb-false, eq-eqb, ne_eqb, not-true, not_from_false}
 use Rattle.terms.specs.Script.{Script, last, term, first, spans, binds, is_body, occurs, binds_variable}
 use Rattle.terms.specs.WellFormed.{WellFormed}
-use Rattle.terms.proofs.Nesting.{unlike, spans_out, nested, binder_label, body_binds}
+use Rattle.terms.proofs.Nesting.{spans_out, nested, binder_label, body_binds}
 use Rattle.owners.specs.Owners.{least, some_of, binds_over, owner_of, owner, between, captured}
 use Rattle.owners.specs.Laws.{Innermost, Unbound, Owned}
-use Rattle.owners.proofs.Opened.{fails}
 use Rattle.owners.proofs.Noting.{no_owner}
 
 -- ---- the least number that passes
@@ -26,14 +25,14 @@ least_is (suc n) b f = elim (cases_Bool (f b)) [
     | inl q ↦ (inl (cond-false _ _ _ h ∙ q.0, λ c low high. (elim (cases_eq c b) [ inl e ↦ (ap f e ∙ h) | inr ne ↦ (q.1 c (omega arith) (omega arith)) ])))
     | inr q ↦ (inr (subst (Least (suc n) b f) (sym (cond-false _ _ _ h)) (record {
       passes = q.passes;
-      first_one = λ c low pass high. (elim (cases_eq c b) [ inl e ↦ absurd (unlike (sym (ap f e ∙ h) ∙ pass)) | inr ne ↦ (q.first_one c (omega arith) pass (omega arith)) ]);
+      first_one = λ c low pass high. (elim (cases_eq c b) [ inl e ↦ absurd (false≢true (sym (ap f e ∙ h) ∙ pass)) | inr ne ↦ (q.first_one c (omega arith) pass (omega arith)) ]);
     })))
   ])
 ]
 
 some_out : (n b : ℕ) (f : ℕ → Bool) → some_of n b f ≡ true → (g : ℕ) × (f g ≡ true)
 unfolding some_of
-some_out zero b f h = absurd (unlike h)
+some_out zero b f h = absurd (false≢true h)
 some_out (suc n) b f h = elim (or_cases (f b) _ h) [ inl q ↦ (b, q) | inr q ↦ some_out n (suc b) f q ]
 
 some_in : (n b : ℕ) (f : ℕ → Bool) (g : ℕ) → b ≤ g → g < b + n → f g ≡ true → some_of n b f ≡ true
@@ -45,7 +44,7 @@ some_in (suc n) b f g low high h = elim (cases_eq g b) [
 ]
 
 is_bound : (o : Option ℕ) (x : ℕ) → binds_variable o x ≡ true → o ≡ Some x
-is_bound None x h = absurd (unlike h)
+is_bound None x h = absurd (false≢true h)
 is_bound (Some y) x h = ap Some (eqb-true y x h)
 
 bound_is : (o : Option ℕ) (x : ℕ) → o ≡ Some x → binds_variable o x ≡ true
@@ -59,8 +58,8 @@ module _ (p : Script) (w : WellFormed p) (l : ℕ) where
       → ((least 256 0 (binds_over p x l) ≡ 0) × Unbound p x l) ⊎ Innermost p x l (least 256 0 (binds_over p x l))
   owned_by x (inl q) = inl (
     q.0,
-    λ c e. fails (spans p c l) (λ s.
-        unlike (sym (q.1 c (omega arith) (omega (arith, (small c x e).1))) ∙ and_from _ _ (bound_is (binds p c) x e) s)),
+    λ c e. false_from_ne_true (spans p c l) (λ s.
+        false≢true (sym (q.1 c (omega arith) (omega (arith, (small c x e).1))) ∙ and_from _ _ (bound_is (binds p c) x e) s)),
   )
   owned_by x (inr q) =
       let o = least 256 0 (binds_over p x l) in

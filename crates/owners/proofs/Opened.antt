@@ -1,22 +1,14 @@
 -- How the scopes that are open change from one label to the one below.
-use Rattle.std.proofs.Common.{◌≡◌, ℕ, zero, suc, ◌+◌, ◌-◌, ◌<◌, ◌≤◌, Bool, true, false, cond, ◌&&◌, ltb, List, [], ◌∷◌, length, is_some, sym, refl, ap, ◌∙◌, subst, inl, inr, arith}
-use Rattle.std.proofs.lemmas.Bool.{cases_Bool, cases_eq, cases_lt, cond-true, cond-false, and_parts, and_from, lt-ltb, le-ltb}
+use Rattle.std.proofs.Common.{◌≡◌, ℕ, zero, suc, ◌+◌, ◌-◌, ◌<◌, ◌≤◌, Bool, true, false, cond, ◌&&◌, ltb, List, [], ◌∷◌, length, reverse, is_some, sym, refl, ap, ◌∙◌, subst, inl, inr, arith}
+use Rattle.std.proofs.lemmas.List.{length-reverse}
+use Rattle.std.proofs.lemmas.Bool.{cases_Bool, cases_eq, cases_lt, cond-true, cond-false, and_parts, and_from, lt-ltb, le-ltb, false≢true, false_from_ne_true}
+use Rattle.std.proofs.lemmas.Bool.Decides.{same_from_decides}
 use Rattle.terms.specs.Script.{Script, last, first, spans, binds, is_body}
 use Rattle.terms.specs.WellFormed.{WellFormed}
 use Rattle.terms.proofs.Firsts.{first_le}
-use Rattle.terms.proofs.Nesting.{unlike, spans_in, spans_out, nested, binder_label}
+use Rattle.terms.proofs.Nesting.{spans_in, spans_out, nested, binder_label}
 use Rattle.owners.specs.declared.scope.Scope.{Scope}
 use Rattle.owners.specs.Scoping.{scope, innermost, left_at, entered, opened, scopes_at}
-
--- two tests that pass together are one
-pub same_test : (x y : Bool) → (x ≡ true → y ≡ true) → (y ≡ true → x ≡ true) → x ≡ y
-same_test true y f g = sym (f refl)
-same_test false true f g = g refl
-same_test false false f g = refl
-
-pub fails : (x : Bool) → (x ≡ true → ⊥) → x ≡ false
-fails true f = absurd (f refl)
-fails false f = refl
 
 -- binder b stands open at l
 abbrev pub stands : Script → ℕ → ℕ → Bool
@@ -42,7 +34,7 @@ module _ (p : Script) where
   stands_in l b h low high = and_from _ _ h (spans_in p b l low high)
 
   below_fails : (l b : ℕ) → b < l → stands p l b ≡ false
-  below_fails l b lt = fails (stands p l b) (λ h. omega (arith, (stands_out l b h).2))
+  below_fails l b lt = false_from_ne_true (stands p l b) (λ h. omega (arith, (stands_out l b h).2))
 
 module _ (p : Script) (w : WellFormed p) (l : ℕ) where
   -- past a scope that holds l, the same scopes are open at l and just above
@@ -54,23 +46,25 @@ module _ (p : Script) (w : WellFormed p) (l : ℕ) where
       ∙ ap (λ ss. cond (stands p (suc l) b) (within p b ss) ss) (same_past b0 above from n (suc b) (omega arith))
     where
       test : stands p l b ≡ stands p (suc l) b
-      test = same_test (stands p l b) (stands p (suc l) b)
-          (λ h. let q = stands_out p l b h in stands_in p (suc l) b q.0 (omega (arith, q.1)) (omega arith))
-          (λ h. let q = stands_out p (suc l) b h in
-          let k = binder_label p w b q.0 in
-          let f : first p b ≤ first p b0 = nested p w b0 b k.0 (omega (arith, k.1)) lt (omega (arith, q.1)) in
-          stands_in p l b q.0 (omega arith) (omega arith))
+      test = same_from_decides (stands p l b) (stands p (suc l) b) (
+        (λ h. let q = stands_out p l b h in stands_in p (suc l) b q.0 (omega (arith, q.1)) (omega arith)),
+        (λ h. let q = stands_out p (suc l) b h in
+            let k = binder_label p w b q.0 in
+            let f : first p b ≤ first p b0 = nested p w b0 b k.0 (omega (arith, k.1)) lt (omega (arith, q.1)) in
+            stands_in p l b q.0 (omega arith) (omega arith)),
+      )
+          (λ e. e, λ e. e)
 
   -- above l, those are open at l that do not begin above it
   left_above : (n b : ℕ) → l < b → opened p l n b ≡ left_at p l (opened p (suc l) n b)
   unfolding opened
   left_above zero b above = refl
   left_above (suc n) b above = elim (cases_Bool (stands p (suc l) b)) [
-    | inr out ↦ (opened_out p l n b (fails (stands p l b) (λ h. let q = stands_out p l b h in unlike (sym out ∙ stands_in p (suc l) b q.0 (omega (arith, q.1)) (omega arith))))
+    | inr out ↦ (opened_out p l n b (false_from_ne_true (stands p l b) (λ h. let q = stands_out p l b h in false≢true (sym out ∙ stands_in p (suc l) b q.0 (omega (arith, q.1)) (omega arith))))
         ∙ left_above n (suc b) (omega arith) ∙ ap (left_at p l) (sym (opened_out p (suc l) n b out)))
     | inl in-it ↦ (let q = stands_out p (suc l) b in-it in
         elim (cases_lt l (first p b)) [
-          | inl begins ↦ (opened_out p l n b (fails (stands p l b) (λ h. omega (arith, (stands_out p l b h).1)))
+          | inl begins ↦ (opened_out p l n b (false_from_ne_true (stands p l b) (λ h. omega (arith, (stands_out p l b h).1)))
               ∙ left_above n (suc b) (omega arith)
               ∙ sym (ap (left_at p l) (opened_in p (suc l) n b in-it) ∙ cond-true (ltb l (first p b)) _ _ (lt-ltb l (first p b) begins)))
           | inr from ↦ (opened_in p l n b (stands_in p l b q.0 from (omega arith))
@@ -89,7 +83,7 @@ module _ (p : Script) (w : WellFormed p) (l : ℕ) where
   ]
     where
       test : stands p l l ≡ is_some (binds p l)
-      test = same_test (stands p l l) (is_some (binds p l)) (λ h. (stands_out p l l h).0) (λ h. stands_in p l l h (first_le p.terms l) (omega arith))
+      test = same_from_decides (stands p l l) (is_some (binds p l)) (λ h. (stands_out p l l h).0, λ h. stands_in p l l h (first_le p.terms l) (omega arith)) (λ e. e, λ e. e)
 
       here : opened p l (suc n) l ≡ entered p l (left_at p l (opened p (suc l) (suc n) l))
       here =
@@ -106,7 +100,7 @@ module _ (p : Script) (w : WellFormed p) where
   none_opened : (n b : ℕ) → opened p (suc (last p)) n b ≡ []
   unfolding opened
   none_opened zero b = refl
-  none_opened (suc n) b = opened_out p (suc (last p)) n b (fails (stands p (suc (last p)) b) (λ h. let q = stands_out p (suc (last p)) b h in omega (arith, q.2, (binder_label p w b q.0).1))) ∙ none_opened n (suc b)
+  none_opened (suc n) b = opened_out p (suc (last p)) n b (false_from_ne_true (stands p (suc (last p)) b) (λ h. let q = stands_out p (suc (last p)) b h in omega (arith, q.2, (binder_label p w b q.0).1))) ∙ none_opened n (suc b)
 
   -- past the last label nothing is open
   pub no_scopes : scopes_at p (suc (last p)) ≡ []
@@ -126,17 +120,22 @@ module _ (p : Script) (w : WellFormed p) where
   few_from_none : (l n : ℕ) → length (opened p l (suc n) 0) < 255
   few_from_none l n =
       let e : length (opened p l (suc n) 0) ≡ length (opened p l n 1) =
-      ap length (opened_out p l n 0 (fails (stands p l 0) (λ h. omega (arith, (binder_label p w 0 (stands_out p l 0 h).0).0)))) in
+      ap length (opened_out p l n 0 (false_from_ne_true (stands p l 0) (λ h. omega (arith, (binder_label p w 0 (stands_out p l 0 h).0).0)))) in
       omega (arith, few_opened l n 1, w.few_terms, w.some_term)
 
   -- fewer scopes are open than a search has room for
-  pub few_scopes : (l : ℕ) → length (scopes_at p l) < 255
+  few_scopes : (l : ℕ) → length (scopes_at p l) < 255
   unfolding scopes_at
   few_scopes l = few_from_none l 255
 
-pub left_fewer : (p : Script) (l : ℕ) (ss : List Scope) → length (left_at p l ss) ≤ length ss
+left_fewer : (p : Script) (l : ℕ) (ss : List Scope) → length (left_at p l ss) ≤ length ss
 left_fewer p l [] = omega arith
 left_fewer p l (s ∷ ss) = elim (cases_Bool (ltb l (first p s.binder))) [
   | inl h ↦ (let e : length (left_at p l (s ∷ ss)) ≡ length (left_at p l ss) = ap length (cond-true _ _ _ h) in omega (arith, left_fewer p l ss))
   | inr h ↦ (let e : length (left_at p l (s ∷ ss)) ≡ suc (length ss) = ap length (cond-false _ _ _ h) in omega arith)
 ]
+
+-- there is room for one scope more
+pub room : (p : Script) → WellFormed p → (l : ℕ) (xs ss : List Scope) → reverse xs ≡ left_at p l ss → ss ≡ scopes_at p (suc l) → length xs < 255
+room p w l xs ss left stood =
+    let e = sym (length-reverse xs) ∙ ap length (left ∙ ap (left_at p l) stood) in omega (arith, left_fewer p l (scopes_at p (suc l)), few_scopes p w (suc l))

@@ -1,13 +1,15 @@
 -- The owner of an occurrence and whether it is captured, from the scopes that are open there.
 use Rattle.std.proofs.Common.{◌≡◌, ℕ, zero, suc, ◌≤◌, Bool, true, false, cond, not, ◌&&◌, ◌||◌, eqb, ◌⊎◌, map, is_some, Some, None, Option, unwrap_or, sym, refl, ap, ◌∙◌, subst, inl, inr, arith}
-use Rattle.std.proofs.lemmas.Bool.{cases_Bool, cond-false, and_parts, and_from, and_right, or_left, or_from, eq-eqb, ne_eqb, eqb-false, not-true, not_from_false}
+use Rattle.std.proofs.lemmas.Bool.{false≢true, false_from_ne_true, cases_Bool, cond-false, and_parts, and_from, and_right, or_left, or_from, eq-eqb, ne_eqb, eqb-false, not-true, not_from_false}
+use Rattle.std.proofs.Math.Bool.{and-true}
 use Rattle.terms.specs.Script.{Script, term, spans, binds, is_body, occurs, binds_variable}
 use Rattle.terms.specs.WellFormed.{WellFormed}
-use Rattle.terms.proofs.Nesting.{unlike, spans_in, spans_out, binder_label, body_binds}
+use Rattle.terms.proofs.Nesting.{spans_in, spans_out, binder_label, body_binds}
 use Rattle.stores.specs.Meaning.{newest}
+use Rattle.stores.specs.Laws.{birthplace_in}
 use Rattle.owners.specs.Owners.{least, some_of, binds_over, owner_of, owner, between, captured}
-use Rattle.owners.specs.Scoping.{innermost, binding_of, opened, scopes_at, told, noticed}
-use Rattle.owners.proofs.Opened.{fails, stands, opened_in, opened_out, stands_out}
+use Rattle.owners.specs.Scoping.{innermost, binding_of, opened, scopes_at, told, noticed, owned_by, owner_at}
+use Rattle.owners.proofs.Opened.{stands, opened_in, opened_out, stands_out}
 
 some_none : (n c : ℕ) (f : ℕ → Bool) → ((g : ℕ) → c ≤ g → f g ≡ false) → some_of n c f ≡ false
 unfolding some_of
@@ -20,12 +22,8 @@ module _ (p : Script) (x l : ℕ) where
   test_open b h = at (binds p b) (and_parts _ _ h).0 (and_parts (is_some (binds p b)) _ h).1
     where
       at : (o : Option ℕ) → is_some o ≡ true → spans p b l ≡ true → (binds_variable o x && spans p b l) ≡ eqb (unwrap_or o 0) x
-      at None e s = absurd (unlike e)
-      at (Some y) e s = ap (λ t. eqb y x && t) s ∙ keep (eqb y x)
-        where
-          keep : (t : Bool) → (t && true) ≡ t
-          keep true = refl
-          keep false = refl
+      at None e s = absurd (false≢true e)
+      at (Some y) e s = ap (λ t. eqb y x && t) s ∙ and-true (eqb y x)
 
   -- and where it does not
   test_shut : (b : ℕ) → stands p l b ≡ false → binds_over p x l b ≡ false
@@ -46,18 +44,18 @@ module _ (p : Script) (x l : ℕ) where
       → look (suc n) b ≡ cond (eqb (unwrap_or (binds p b) 0) x) (Some (cond (is_body p b) b (innermost (opened p l n (suc b))).function, b)) (look n (suc b))
   look_open n b h = ap (λ ss. newest x (map (binding_of p) ss)) (opened_in p l n b h)
 
-  owner_by : (n b g : ℕ) (t : Bool) → (told g (look n (suc b))).0 ≡ least n (suc b) (binds_over p x l)
-      → (told g (cond t (Some (cond (is_body p b) b (innermost (opened p l n (suc b))).function, b)) (look n (suc b)))).0 ≡ cond t b (least n (suc b) (binds_over p x l))
-  owner_by n b g true e = refl
-  owner_by n b g false e = e
+  owner_by : (n b : ℕ) (t : Bool) → birthplace_in (look n (suc b)) ≡ least n (suc b) (binds_over p x l)
+      → birthplace_in (cond t (Some (cond (is_body p b) b (innermost (opened p l n (suc b))).function, b)) (look n (suc b))) ≡ cond t b (least n (suc b) (binds_over p x l))
+  owner_by n b true e = refl
+  owner_by n b false e = e
 
-  owner_found : (n b g : ℕ) → (told g (look n b)).0 ≡ least n b (binds_over p x l)
+  owner_found : (n b : ℕ) → birthplace_in (look n b) ≡ least n b (binds_over p x l)
   unfolding opened least
-  owner_found zero b g = refl
-  owner_found (suc n) b g = elim (cases_Bool (stands p l b)) [
-    | inr h ↦ (ap (λ q. (told g q).0) (look_shut n b h) ∙ owner_found n (suc b) g ∙ sym (cond-false _ _ _ (test_shut b h)))
-    | inl h ↦ (ap (λ q. (told g q).0) (look_open n b h)
-        ∙ owner_by n b g (eqb (unwrap_or (binds p b) 0) x) (owner_found n (suc b) g)
+  owner_found zero b = refl
+  owner_found (suc n) b = elim (cases_Bool (stands p l b)) [
+    | inr h ↦ (ap birthplace_in (look_shut n b h) ∙ owner_found n (suc b) ∙ sym (cond-false _ _ _ (test_shut b h)))
+    | inl h ↦ (ap birthplace_in (look_open n b h)
+        ∙ owner_by n b (eqb (unwrap_or (binds p b) 0) x) (owner_found n (suc b))
         ∙ ap (λ t. cond t b (least n (suc b) (binds_over p x l))) (sym (test_open b h)))
   ]
 
@@ -114,10 +112,10 @@ module _ (p : Script) (w : WellFormed p) (x l : ℕ) where
 
   -- a function body that does not stand open does not lie between
   between_shut : (o b : ℕ) → stands p l b ≡ false → between p l o b ≡ false
-  between_shut o b h = fails (between p l o b) (λ k.
+  between_shut o b h = false_from_ne_true (between p l o b) (λ k.
       let q = and_parts (is_body p b) _ k in
       let s = and_parts (spans p o b) _ (and_parts (not (eqb b o)) _ q.1).1 in
-      unlike (sym h ∙ and_from _ _ (body_binds p b q.0) s.1))
+      false≢true (sym h ∙ and_from _ _ (body_binds p b q.0) s.1))
 
   -- b is the owner: what encloses it encloses the occurrence, and no body above it lies in its span
   own : (n b t o : ℕ) → cond (is_body p b) b (innermost (opened p l n (suc b))).function ≡ t → b ≡ o
@@ -125,8 +123,8 @@ module _ (p : Script) (w : WellFormed p) (x l : ℕ) where
   own n b t o f c =
       ap not (eq-eqb t _ (sym f))
       ∙ sym (or_from (between p l o b) (some_of n (suc b) (between p l o))
-      (fails (between p l o b) (λ k. eqb-false b o (not-true _ (and_parts (not (eqb b o)) _ (and_parts (is_body p b) _ k).1).0) c))
-      (some_none n (suc b) (between p l o) (λ g le. fails (between p l o g) (λ k.
+      (false_from_ne_true (between p l o b) (λ k. eqb-false b o (not-true _ (and_parts (not (eqb b o)) _ (and_parts (is_body p b) _ k).1).0) c))
+      (some_none n (suc b) (between p l o) (λ g le. false_from_ne_true (between p l o g) (λ k.
       let s = and_parts (spans p o g) _ (and_parts (not (eqb g o)) _ (and_parts (is_body p g) _ k).1).1 in
       omega (arith, (spans_out p o g s.0).1)))))
 
@@ -165,23 +163,24 @@ module _ (p : Script) (w : WellFormed p) (x l : ℕ) where
 
   -- the owner and whether it is captured, at once
   found : (n o : ℕ) (q : Option (ℕ × ℕ)) → look p x l n 0 ≡ q → o ≡ least n 0 (binds_over p x l)
-      → told (innermost (opened p l n 0)).function q ≡ (o, not (eqb o 0) && some_of n 0 (between p l o))
+      → told (innermost (opened p l n 0)).function q ≡ owned_by o (not (eqb o 0) && some_of n 0 (between p l o))
   found n o None e is =
-      let z : o ≡ 0 = is ∙ sym (owner_found p x l n 0 0) ∙ ap (λ u. (told 0 u).0) e in
-      sym (ap (λ k. (k, not (eqb k 0) && some_of n 0 (between p l k))) z)
+      let z : o ≡ 0 = is ∙ sym (owner_found p x l n 0) ∙ ap birthplace_in e in
+      sym (ap (λ k. owned_by k (not (eqb k 0) && some_of n 0 (between p l k))) z)
   found n o (Some q) e is =
-      let own_is : q.1 ≡ o = sym (is ∙ sym (owner_found p x l n 0 0) ∙ ap (λ u. (told 0 u).0) e) in
+      let own_is : q.1 ≡ o = sym (is ∙ sym (owner_found p x l n 0) ∙ ap birthplace_in e) in
       let hit = hits n 0 q.0 q.1 e in
       let some : q.1 ≡ 0 → ⊥ = λ z. omega (arith, (binder_label p w q.1 (stands_out p l q.1 hit.open_there).0).0) in
-      ap (λ t. (q.1, t)) (captured_found n 0 q.0 q.1 e ∙ sym (ap (λ t. t && some_of n 0 (between p l q.1)) (not_from_false _ (ne_eqb q.1 0 some))))
-      ∙ ap (λ k. (k, not (eqb k 0) && some_of n 0 (between p l k))) own_is
+      ap (λ t. Some (record { binder = q.1; captured = t })) (captured_found n 0 q.0 q.1 e ∙ sym (ap (λ t. t && some_of n 0 (between p l q.1)) (not_from_false _ (ne_eqb q.1 0 some))))
+      ∙ sym (cond-false (eqb q.1 0) None _ (ne_eqb q.1 0 some))
+      ∙ ap (λ k. owned_by k (not (eqb k 0) && some_of n 0 (between p l k))) own_is
 
 -- the whole: what is noticed among the scopes open at l is the owner of l and whether it is captured
 module _ (p : Script) (w : WellFormed p) (l : ℕ) where
-  noticed_by : (o : Option ℕ) → occurs (term p l) ≡ o → noticed p (scopes_at p l) o ≡ (owner p l, captured p l)
+  noticed_by : (o : Option ℕ) → occurs (term p l) ≡ o → noticed p (scopes_at p l) o ≡ owner_at p l
   unfolding owner captured scopes_at
-  noticed_by None occ = sym (ap (λ u. (owner_of p l u, not (eqb (owner_of p l u) 0) && some_of 256 0 (between p l (owner_of p l u)))) occ)
+  noticed_by None occ = sym (ap (λ u. owned_by (owner_of p l u) (not (eqb (owner_of p l u) 0) && some_of 256 0 (between p l (owner_of p l u)))) occ)
   noticed_by (Some x) occ = found p w x l 256 (owner_of p l (occurs (term p l))) _ refl (ap (owner_of p l) occ)
 
-  pub noticed_is : noticed p (scopes_at p l) (occurs (term p l)) ≡ (owner p l, captured p l)
+  pub noticed_is : noticed p (scopes_at p l) (occurs (term p l)) ≡ owner_at p l
   noticed_is = noticed_by (occurs (term p l)) refl

@@ -1,7 +1,7 @@
--- The list of open scopes in memory.
-use Rattle.std.specs.Prelude.{List, drop}
+-- The list of open scopes in memory, the innermost first.
+use Rattle.std.specs.Prelude.{List, reverse}
+use Rattle.arrayvec.specs.ArrayVec.{ArrayVec}
 use Rattle.owners.specs.declared.scope.Scope.{Scope}
-use Rattle.owners.specs.declared.scopes.Scopes.{Scopes}
 
-abbrev pub open_scopes : Scopes → List Scope
-open_scopes s = drop s.free s.slots
+abbrev pub open_scopes : ArrayVec Scope → List Scope
+open_scopes v = reverse v.items

@@ -1,10 +1,12 @@
 -- The scopes that stand open at a label, as the walk keeps them.
-use Rattle.std.specs.Prelude.{◌≡◌, ℕ, zero, suc, Bool, false, cond, not, ◌&&◌, List, [], ◌∷◌, map, replicate, is_some, Some, None, Option, ◌==◌, nat_lt}
+use Rattle.std.specs.Prelude.{ℕ, zero, suc, Bool, cond, not, ◌&&◌, List, [], ◌∷◌, map, is_some, Some, None, Option, ◌==◌, nat_lt}
 use Rattle.std.specs.Option.{unwrap_or}
 use Rattle.terms.specs.Script.{Script, first, spans, binds, is_body}
 use Rattle.stores.specs.declared.binding.Binding.{Binding}
-use Rattle.stores.specs.Meaning.{Meaning, newest}
+use Rattle.stores.specs.Meaning.{newest}
 use Rattle.owners.specs.declared.scope.Scope.{Scope}
+use Rattle.owners.specs.declared.owner.Owner.{Owner}
+use Rattle.owners.specs.Owners.{owner, captured}
 
 abbrev pub scope : ℕ → ℕ → Scope
 scope b g = record { binder = b; function = g }
@@ -43,20 +45,19 @@ opened p l (suc n) b =
 unfoldable pub scopes_at : Script → ℕ → List Scope
 scopes_at p l = opened p l 256 0
 
--- The walk stands at label l, over a store with this limit: the open scopes are those at l, and the store holds a binding for each.
-pub record Standing (p : Script) (l limit : ℕ) (ss : List Scope) (m : Meaning ℕ) : Type 0 where
-  pub open_at : ss ≡ scopes_at p l
-  pub held : m ≡ record { bindings = map (binding_of p) ss; top = replicate 32 None; limit = limit }
-
--- the store's meaning with a binding for each open scope
-abbrev pub holding : Script → Meaning ℕ → List Scope → Meaning ℕ
-holding p m ss = record { bindings = map (binding_of p) ss; top = m.top; limit = m.limit }
-
 -- what a look at the open scopes tells of an occurrence: its owner, and whether another function encloses it than the owner's
-abbrev pub told : ℕ → Option (ℕ × ℕ) → ℕ × Bool
-told g None = (0, false)
-told g (Some q) = (q.1, not (q.0 == g))
+abbrev pub told : ℕ → Option (ℕ × ℕ) → Option Owner
+told g None = None
+told g (Some q) = Some (record { binder = q.1; captured = not (q.0 == g) })
 
-abbrev pub noticed : Script → List Scope → Option ℕ → ℕ × Bool
-noticed p ss None = (0, false)
+abbrev pub noticed : Script → List Scope → Option ℕ → Option Owner
+noticed p ss None = None
 noticed p ss (Some x) = told (innermost ss).function (newest x (map (binding_of p) ss))
+
+-- the owner b, where there is one, and whether the occurrence is captured
+abbrev pub owned_by : ℕ → Bool → Option Owner
+owned_by b k = cond (b == 0) None (Some (record { binder = b; captured = k }))
+
+-- what a walk finds at l
+abbrev pub owner_at : Script → ℕ → Option Owner
+owner_at p l = owned_by (owner p l) (captured p l)

@@ -1,7 +1,7 @@
 #![tactic(auto)]
 
+mod owner;
 mod scope;
-mod scopes;
 mod walk;
 
 pub use walk::find_owners;
