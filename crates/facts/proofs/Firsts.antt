@@ -1,11 +1,14 @@
 -- the first number that p takes
-use Rattle.std.proofs.Common.{◌≡◌, ℕ, zero, suc, ◌+◌, ◌-◌, ◌<◌, ◌≤◌, Bool, true, false, ◌&&◌, ltb, ◌⊎◌, Some, None, Option, sym, refl, ap, ◌∙◌, ⊎_elim, arith}
-use Rattle.std.proofs.lemmas.Bool.{and_parts, lt-ltb, ltb-true, cond-true, cond-false, cases_lt, cases_eq, cases_Bool}
+use Rattle.std.proofs.Common.{◌≡◌, ℕ, zero, suc, ◌+◌, ◌-◌, ◌<◌, ◌≤◌, Bool, true, false, ◌&&◌, ltb, ◌⊎◌, Some, None, Option, MatchOption, sym, refl, ap, ◌∙◌, ⊎_elim, arith}
+use Rattle.std.proofs.lemmas.Bool.{false_from_ne_true, and_parts, lt-ltb, ltb-true, cond-true, cond-false, cases_lt, cases_eq, cases_Bool}
+use denote.Param.Members.{Mut}
+use denote.Ref.{Bor}
+use Rattle.std.specs.declared.ops.Range.{Range}
+use Rattle.std.specs.Fn.{CalledAt}
+use Rattle.std.specs.Iterator.{FindsItem}
+use Rattle.std.proofs.iter.Yields.{nat_range_steps}
+use Rattle.std.proofs.lemmas.Iterator.{first_from_Range}
 use Rattle.facts.specs.Table.{holds, first_of, Smallest, Next}
-
-pub refuted : (b : Bool) → (b ≡ true → ⊥) → b ≡ false
-refuted true h = absurd (h refl)
-refuted false h = refl
 
 pub first_at : (p : ℕ → Bool) (from n f : ℕ) → from ≤ f → f < from + n → p f ≡ true → ((k : ℕ) → from ≤ k → k < f → p k ≡ false)
     → Some f ≡ first_of p from n
@@ -27,9 +30,22 @@ pub none_first : (p : ℕ → Bool) (from n : ℕ) → None ≡ first_of p from 
 unfolding first_of
 none_first p from zero e k lo hi = absurd (omega arith)
 none_first p from (suc n) e k lo hi =
-    ⊎_elim (λ t. let s = e ∙ cond-true (p from) (Some from) (first_of p (suc from) n) t in let z : ◌≡◌ {A = ℕ} 0 1 = cc in absurd (omega arith))
+    ⊎_elim (λ t. let s = e ∙ cond-true (p from) (Some from) (first_of p (suc from) n) t in cc)
     (λ t. ⊎_elim (λ q. ap p (sym q) ∙ t) (λ d. none_first p (suc from) n (e ∙ cond-false (p from) _ _ t) k (omega arith) (omega arith)) (cases_eq from k))
     (cases_Bool (p from))
+
+-- what `find` answers over a range, with p the test that its closure computes
+pub found_in_range : {F : Type 0} {g : Mut F (Bor ℕ × Unit {0}) Bool} (p : ℕ → Bool) {s : Range ℕ} (u : Range ℕ) {f : F} (r : Option ℕ) (n : ℕ)
+    → FindsItem nat_range_steps g s f r u → s.end ≡ s.start + n → ((x : ℕ) (b : Bool) (q : F) → CalledAt g f x b q → (q ≡ f) × (b ≡ p x))
+    → r ≡ first_of p s.start n
+found_in_range p {s} u {f} r n ran e at =
+    first r (first_from_Range s u f r (λ k. p k ≡ true) (λ k. p k ≡ false) ran (λ x q k. sym (at x true q k).1) (λ x q k. ((at x false q k).0, sym (at x false q k).1)))
+  where
+    first : (r : Option ℕ)
+        → MatchOption r ((k : ℕ) → s.start ≤ k → k < s.end → p k ≡ false) (λ i. (s.start ≤ i) × (i < s.end) × (p i ≡ true) × ((k : ℕ) → s.start ≤ k → k < i → p k ≡ false))
+        → r ≡ first_of p s.start n
+    first None none = first_none p s.start n (λ k lo hi. none k lo (omega arith))
+    first (Some i) at = first_at p s.start n i at.0 (omega (arith, at.1)) at.2 at.3
 
 -- a table's facts
 pub holds_at : (h : ℕ → ℕ → Bool) (s f : ℕ) → s < 4608 → f < 4608 → h s f ≡ holds h s f
@@ -52,9 +68,9 @@ module _ (h : ℕ → ℕ → Bool) (s from : ℕ) where
   next_by r k = record { answer = answered r k; smallest = k }
 
   pub next_none : ((k : ℕ) → from ≤ k → k < 4608 → holds h s k ≡ false) → Next h s from None
-  next_none all = next_by None (λ k lo. ⊎_elim (all k lo) (λ hi. refuted _ (λ e. omega (arith, (holds_parts h s k e).1))) (cases_lt k 4608))
+  next_none all = next_by None (λ k lo. ⊎_elim (all k lo) (λ hi. false_from_ne_true _ (λ e. omega (arith, (holds_parts h s k e).1))) (cases_lt k 4608))
 
   -- past the last set or the last fact there is none
   pub next_no_more : (4608 ≤ s) ⊎ ((s < 4608) × (4608 ≤ from)) → Next h s from None
   next_no_more l =
-      next_by None (λ k m. refuted _ (λ e. let p = holds_parts h s k e in ⊎_elim (λ a. omega (arith, p.0)) (λ b. omega (arith, p.1, b.1)) l))
+      next_by None (λ k m. false_from_ne_true _ (λ e. let p = holds_parts h s k e in ⊎_elim (λ a. omega (arith, p.0)) (λ b. omega (arith, p.1, b.1)) l))

@@ -1,4 +1,5 @@
 pub mod Numbering
 pub mod Table
+pub mod Members
 pub mod Words
 pub mod Lists

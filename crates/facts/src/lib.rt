@@ -1,11 +1,13 @@
 #![tactic(auto)]
 
 mod lists;
+mod members;
 mod numbering;
 mod table;
 mod words;
 
 pub use lists::ListTable;
-pub use numbering::{Fact, Set};
+pub use members::Members;
+pub use numbering::{Fact, Set, Unassigned};
 pub use table::{Facts, SETS, within};
 pub use words::WordTable;

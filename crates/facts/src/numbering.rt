@@ -1,5 +1,10 @@
 ghost use Rattle.std.specs.Prelude.{◌≡◌};
+ghost use Rattle.std.specs.Result.{result_ok};
 ghost use Rattle.facts.specs.Numbering.{fact_number, set_number, FactsApart, SetsApart, FactNumbered, SetNumbered};
+
+// The number stands for nothing.
+#[derive(Clone, Copy, PartialEq, Eq, Debug)]
+pub struct Unassigned;
 
 // A symbol is below 32 and a context below 16. Past that the number is the same sum, and may be that of another.
 #[derive(Clone, Copy)]
@@ -12,28 +17,30 @@ pub enum Fact {
     Pair { cons: u8, context: u8 },
 }
 
-impl Fact {
-    // The fact with this number, if there is one.
-    pub fn of(number: u16) -> Option<Fact>
-        ensures { FactNumbered number result }
-    {
+impl TryFrom<u16> for Fact {
+    type Error = Unassigned;
+
+    ghost try_from_gives = { λ number r. FactNumbered number (result_ok r) };
+
+    fn try_from(number: u16) -> Result<Fact, Unassigned> {
         match number {
-            0..=31 => Some(Fact::Symbol(number as u8)),
-            32 => Some(Fact::Number),
-            64..=319 => Some(Fact::Function((number - 64) as u8)),
-            512..=4607 => Some(Fact::Pair {
+            0..=31 => Ok(Fact::Symbol(number as u8)),
+            32 => Ok(Fact::Number),
+            64..=319 => Ok(Fact::Function((number - 64) as u8)),
+            512..=4607 => Ok(Fact::Pair {
                 cons: ((number - 512) / 16) as u8,
                 context: (number % 16) as u8,
             }),
-            _ => None,
+            _ => Err(Unassigned),
         }
     }
+}
 
-    pub fn number(&self) -> u16
-        ensures number { result ≡ fact_number self.now }
-        ensures apart { FactsApart }
-    {
-        match *self {
+impl From<Fact> for u16 {
+    ghost from_gives = { λ fact number. (number ≡ fact_number fact) × FactsApart };
+
+    fn from(fact: Fact) -> u16 {
+        match fact {
             Fact::Symbol(symbol) => symbol as u16,
             Fact::Number => 32,
             Fact::Function(body) => 64 + body as u16,
@@ -52,27 +59,29 @@ pub enum Set {
     Bound(u8),
 }
 
-impl Set {
-    // The set with this number, if there is one.
-    pub fn of(number: u16) -> Option<Set>
-        ensures { SetNumbered number result }
-    {
+impl TryFrom<u16> for Set {
+    type Error = Unassigned;
+
+    ghost try_from_gives = { λ number r. SetNumbered number (result_ok r) };
+
+    fn try_from(number: u16) -> Result<Set, Unassigned> {
         match number {
-            0..=4095 => Some(Set::Flow {
+            0..=4095 => Ok(Set::Flow {
                 label: (number / 16) as u8,
                 context: (number % 16) as u8,
             }),
-            4096..=4351 => Some(Set::Top((number - 4096) as u8)),
-            4352..=4607 => Some(Set::Bound((number - 4352) as u8)),
-            _ => None,
+            4096..=4351 => Ok(Set::Top((number - 4096) as u8)),
+            4352..=4607 => Ok(Set::Bound((number - 4352) as u8)),
+            _ => Err(Unassigned),
         }
     }
+}
 
-    pub fn number(&self) -> u16
-        ensures number { result ≡ set_number self.now }
-        ensures apart { SetsApart }
-    {
-        match *self {
+impl From<Set> for u16 {
+    ghost from_gives = { λ set number. (number ≡ set_number set) × SetsApart };
+
+    fn from(set: Set) -> u16 {
+        match set {
             Set::Flow { label, context } => 16 * label as u16 + context as u16,
             Set::Top(variable) => 4096 + variable as u16,
             Set::Bound(binder) => 4352 + binder as u16,

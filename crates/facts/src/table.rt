@@ -1,6 +1,8 @@
 ghost use Rattle.std.specs.Prelude.{◌≡◌, ℕ, Bool, Decides};
 ghost use Rattle.facts.specs.Table.{holds, Next, Within};
 
+use crate::members::Members;
+
 // Sets are numbered below this, and so are facts.
 pub const SETS: u16 = 4608;
 
@@ -21,12 +23,5 @@ pub trait Facts {
 pub fn within<F: Facts>(facts: &F, a: u16, b: u16) -> bool
     ensures { Decides result (Within (F.members facts.now) a b) }
 {
-    let mut from = 0;
-    while let Some(fact) = facts.next(a, from) {
-        if !facts.has(b, fact) {
-            return false;
-        }
-        from = fact + 1;
-    }
-    true
+    Members::of(facts, a).all(|fact| facts.has(b, fact))
 }

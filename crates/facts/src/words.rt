@@ -1,33 +1,29 @@
-ghost use Rattle.std.specs.Prelude.{◌≡◌, Ok, Err, MatchResult, slice_index};
+ghost use Rattle.std.specs.Prelude.{◌≡◌, Ok, Err, length, MatchResult};
 ghost use Rattle.facts.specs.Words.{in_words, word_rule};
 
 use crate::table::{Facts, SETS};
 use faults::Fault;
 
+// words of a set
+const ROW: usize = 72;
+
+const WORDS: usize = ROW * SETS as usize;
+
 // 72 words for each set, lent by the caller.
 #[derive(Clone, Copy)]
 pub struct WordTable<'a> {
     words: &'a [u64],
+    ghost whole: { length words.now ≡ 331776 },
 }
 
 impl<'a> WordTable<'a> {
     pub fn over(words: &'a [u64]) -> Result<WordTable<'a>, Fault>
         ensures { MatchResult result (λ t. (t.words.now ≡ words.now) × (word_rule words.now ≡ Ok tt)) (λ e. word_rule words.now ≡ Err e) }
     {
-        if words.len() != 331776 {
+        if words.len() != WORDS {
             return Err(Fault::MemoryLength);
         }
         Ok(WordTable { words })
-    }
-
-    // 0 past the last word: the table keeps no invariant of its length
-    fn word(&self, at: usize) -> u64
-        ensures { result ≡ slice_index self.now.words.now at }
-    {
-        match self.words.get(at) {
-            Some(word) => *word,
-            None => 0,
-        }
     }
 }
 
@@ -38,7 +34,7 @@ impl<'a> Facts for WordTable<'a> {
         if set >= SETS || fact >= SETS {
             return false;
         }
-        let word = self.word(72 * set as usize + fact as usize / 64);
+        let word = self.words[ROW * set as usize + fact as usize / 64];
         (word >> (fact % 64)) & 1 == 1
     }
 
@@ -46,14 +42,14 @@ impl<'a> Facts for WordTable<'a> {
         if set >= SETS || from >= SETS {
             return None;
         }
-        let base = 72 * set as usize;
+        let base = ROW * set as usize;
         let first = from as usize / 64;
-        let rest = self.word(base + first) >> (from % 64);
+        let rest = self.words[base + first] >> (from % 64);
         if rest != 0 {
             return Some(from + rest.trailing_zeros() as u16);
         }
-        for w in first + 1..72 {
-            let word = self.word(base + w);
+        for w in first + 1..ROW {
+            let word = self.words[base + w];
             if word != 0 {
                 return Some(64 * w as u16 + word.trailing_zeros() as u16);
             }

@@ -1,9 +1,12 @@
-use Rattle.std.proofs.Common.{sym, arith}
-use Rattle.facts.proofs.Rising.{refused_at, accepted_all}
+use Rattle.std.proofs.Common.{Some, None, arith, rules, tests}
+use Rattle.facts.proofs.Firsts.{found_in_range}
+use Rattle.facts.proofs.Rising.{ruled}
 use Rattle.facts.proofs.lists.accepted.Goals as goal
 
-pub returns-then-not-ordered : goal.returns-then-not-ordered
-returns-then-not-ordered c = refused_at _ (omega arith) _ c.loop-i-test.true (sym c.if-not-ordered.ensures) c.loop-i.invariant
+pub returns-in-Some : goal.returns-in-Some
+returns-in-Some c =
+    ruled _ c.if-numbers-gt-LONGEST.false (Some c.in-Some.index) (found_in_range _ c.find.new.self _ _ c.in-Some.ensures.ran (omega arith) (λ x b q k. search (rules, tests)))
 
-pub returns : goal.returns
-returns c = accepted_all _ (omega arith) (λ k h. c.loop-i.invariant k (omega arith))
+pub returns-in-None : goal.returns-in-None
+returns-in-None c =
+    ruled _ c.if-numbers-gt-LONGEST.false None (found_in_range _ c.find.new.self _ _ c.in-None.ensures.ran (omega arith) (λ x b q k. search (rules, tests)))
