@@ -1,43 +1,54 @@
 -- every and some number below a bound
-use Rattle.std.proofs.Common.{◌≡◌, ℕ, zero, suc, ◌<◌, Bool, true, false, sym, refl, ap, ◌∙◌, inl, inr, ⊎_elim, arith}
-use Rattle.std.proofs.lemmas.Bool.{and_parts, and_from, or_cases, or_left, or_right, or_from, cases_eq, cases_Bool, both_ways}
+use Rattle.std.proofs.Common.{◌≡◌, ℕ, zero, suc, ◌+◌, ◌<◌, ◌≤◌, Bool, true, Decides, refl, ap, sym, ◌∙◌, ⊎_elim, arith}
+use denote.Param.Members.{Mut}
+use Rattle.std.specs.declared.ops.Range.{Range}
+use Rattle.std.specs.Fn.{Called}
+use Rattle.std.specs.Iterator.{ChecksAll}
+use Rattle.std.specs.List.{list_all, range_with_len}
+use Rattle.std.proofs.iter.Yields.{nat_range_steps}
+use Rattle.std.proofs.lemmas.Bool.{and_parts, and_from, cases_eq}
+use Rattle.std.proofs.lemmas.Bool.Decides.{Decides-below_and, Decides-below_or, same_from_decides}
+use Rattle.std.proofs.lemmas.Iterator.{YieldsList-from_range}
+use Rattle.std.proofs.lemmas.Iterator.Search.{all_from_yields_List}
 use Rattle.proposals.specs.Counting.{every, some}
 
-pub every_from : (n : ℕ) (f : ℕ → Bool) → ((i : ℕ) → i < n → f i ≡ true) → every n f ≡ true
+every_decides : (n : ℕ) (f : ℕ → Bool) → Decides (every n f) ((i : ℕ) → i < n → f i ≡ true)
 unfolding every
-every_from zero f h = refl
-every_from (suc n) f h = and_from _ _ (h n (omega arith)) (every_from n f (λ i l. h i (omega arith)))
+every_decides n f = Decides-below_and f (λ i. f i ≡ true) (λ m. every m f) (λ i. (λ e. e, λ e. e)) refl (λ _. refl) n
+
+pub every_from : (n : ℕ) (f : ℕ → Bool) → ((i : ℕ) → i < n → f i ≡ true) → every n f ≡ true
+every_from n f = (every_decides n f).1
 
 pub every_at : (n : ℕ) (f : ℕ → Bool) → every n f ≡ true → (i : ℕ) → i < n → f i ≡ true
-unfolding every
-every_at zero f e i l = absurd (omega arith)
-every_at (suc n) f e i l =
-    let p = and_parts (f n) (every n f) e in
-    ⊎_elim (λ q. ap f q ∙ p.0) (λ d. every_at n f p.1 i (omega arith)) (cases_eq i n)
+every_at n f = (every_decides n f).0
 
-pub every_not : (n : ℕ) (f : ℕ → Bool) (i : ℕ) → i < n → f i ≡ false → every n f ≡ false
-every_not n f i l e = elim (cases_Bool (every n f)) [
-  | inl t ↦ (absurd (both_ways (f i) e (every_at n f t i l)))
-  | inr t ↦ t
-]
-
-pub every_same : (n : ℕ) (f g : ℕ → Bool) → ((i : ℕ) → i < n → f i ≡ g i) → every n f ≡ every n g
-unfolding every
-every_same zero f g h = refl
-every_same (suc n) f g h = rw (h n (omega arith), every_same n f g (λ i l. h i (omega arith)))
+some_decides : (n : ℕ) (f : ℕ → Bool) → Decides (some n f) ((i : ℕ) × (i < n) × (f i ≡ true))
+unfolding some
+some_decides n f = Decides-below_or f (λ i. f i ≡ true) (λ m. some m f) (λ i. (λ e. e, λ e. e)) refl (λ _. refl) n
 
 pub some_at : (n : ℕ) (f : ℕ → Bool) (i : ℕ) → i < n → f i ≡ true → some n f ≡ true
-unfolding some
-some_at zero f i l e = absurd (omega arith)
-some_at (suc n) f i l e = ⊎_elim (λ q. or_left _ _ (ap f (sym q) ∙ e)) (λ d. or_right (f n) _ (some_at n f i (omega arith) e)) (cases_eq i n)
+some_at n f i l e = (some_decides n f).1 (i, l, e)
 
 pub some_where : (n : ℕ) (f : ℕ → Bool) → some n f ≡ true → (i : ℕ) × (i < n) × (f i ≡ true)
-unfolding some
-some_where zero f e = absurd (both_ways false refl e)
-some_where (suc n) f e =
-    ⊎_elim (λ a. (n, omega arith, a)) (λ b. let w = some_where n f b in (w.0, omega (arith, w.1), w.2)) (or_cases (f n) _ e)
+some_where n f = (some_decides n f).0
 
-pub some_none : (n : ℕ) (f : ℕ → Bool) → ((i : ℕ) → i < n → f i ≡ false) → some n f ≡ false
-unfolding some
-some_none zero f h = refl
-some_none (suc n) f h = or_from _ _ (h n (omega arith)) (some_none n f (λ i l. h i (omega arith)))
+-- the same of the numbers of a range
+range_at : (p : ℕ → Bool) (from n : ℕ) → list_all p (range_with_len from n) ≡ true → (i : ℕ) → from ≤ i → i < from + n → p i ≡ true
+range_at p from zero e i lo hi = absurd (omega arith)
+range_at p from (suc n) e i lo hi =
+    let a = and_parts (p from) _ e in
+    ⊎_elim (λ q. ap p (sym q) ∙ a.0) (λ d. range_at p (from + 1) n a.1 i (omega arith) (omega arith)) (cases_eq from i)
+
+range_from : (p : ℕ → Bool) (from n : ℕ) → ((i : ℕ) → from ≤ i → i < from + n → p i ≡ true) → list_all p (range_with_len from n) ≡ true
+range_from p from zero all = refl
+range_from p from (suc n) all = and_from _ _ (all from (omega arith) (omega arith)) (range_from p (from + 1) n (λ i lo hi. all i (omega arith) (omega arith)))
+
+range_every : (p : ℕ → Bool) (n : ℕ) → list_all p (range_with_len 0 n) ≡ every n p
+range_every p n =
+    same_from_decides _ _ (λ e i l. range_at p 0 n e i (omega arith) (omega arith), λ all. range_from p 0 n (λ i lo hi. all i (omega arith))) (every_decides n p)
+
+-- what `all` answers over a range, with p the test that its closure computes
+pub all_in_range : {F : Type 0} {g : Mut F (ℕ × Unit {0}) Bool} (p : ℕ → Bool) {s : Range ℕ} (u : Range ℕ) {f : F} (r : Bool) (n : ℕ)
+    → ChecksAll nat_range_steps g s f r u → s ≡ record { start = 0; end = n } → ((x : ℕ) (b : Bool) (q : F) → Called g f (x, tt) b q → (q ≡ f) × (b ≡ p x))
+    → r ≡ every n p
+all_in_range p u {f} r n ran e at = all_from_yields_List p u f r ran (YieldsList-from_range 0 n n e (omega arith)) at ∙ range_every p n

@@ -2,7 +2,7 @@
 use Rattle.std.proofs.Common.{◌≡◌, ℕ, ◌+◌, ◌*◌, ◌%◌, ◌<◌, ◌≤◌, true, false, not, ◌||◌, eqb, ltb, leb, ◌⊎◌, ◌∷◌, length, get_or, is_some, Some, None, Ok, Err, Option, Result, sym, refl, ap, ◌∙◌, subst, inl, inr, ⊎_elim, arith}
 use native.Mathlib.Nat.{zero-div}
 use Rattle.std.proofs.lemmas.List.{get_or_past}
-use Rattle.std.proofs.lemmas.Bool.{eqb-true, eq-eqb, leb-true, le-leb, ltb-true, lt-ltb, le-ltb, and_parts, and_from, or_cases, or_left, or_right, not-true, not_from_false, cond-true, cond-false, cases_lt, cases_eq, cases_Bool, both_ways}
+use Rattle.std.proofs.lemmas.Bool.{false_from_ne_true, eqb-true, eq-eqb, leb-true, le-leb, ltb-true, lt-ltb, le-ltb, and_parts, and_from, or_cases, or_left, or_right, not-true, not_from_false, cond-true, cond-false, cases_lt, cases_eq, cases_Bool, both_ways}
 use Rattle.faults.specs.declared.fault.Fault.{Fault}
 use Rattle.faults.specs.declared.fault.Fault.TheVariants.{MemoryLength}
 use Rattle.terms.specs.declared.term.Term.TheVariants.{Quote}
@@ -10,7 +10,7 @@ use Rattle.terms.specs.Script.{Script, last, term, term_at, binds, binds_variabl
 use Rattle.terms.specs.WellFormed.{WellFormed}
 use Rattle.terms.proofs.Nesting.{binder_label, body_binds}
 use Rattle.facts.specs.Words.{bit}
-use Rattle.facts.proofs.Firsts.{holds_parts, refuted}
+use Rattle.facts.proofs.Firsts.{holds_parts}
 use Rattle.proposals.specs.Tables.{Tables, contexts, entry, listed, same_rows}
 use Rattle.proposals.specs.DueForm.{memory_right, zero_row, entry_right, entries_right, new_row, row_right, may_list, mask_right, fact_right, memory_verdict, rows_verdict, masks_verdict, facts_verdict, before, due_form}
 use Rattle.proposals.specs.Model.{taken, proposal_of}
@@ -40,7 +40,7 @@ module _ (t : Tables) where
 
   pub memory_wrong : ((length t.rows % 32 ≡ 0 → ⊥) ⊎ ((length t.rows < 32) ⊎ ((512 < length t.rows) ⊎ (length t.masks ≡ 256 → ⊥)))) → memory_right t ≡ false
   unfolding contexts
-  memory_wrong h = refuted _ (λ e. at (memory_parts e) h)
+  memory_wrong h = false_from_ne_true _ (λ e. at (memory_parts e) h)
     where
       at : (length t.rows % 32 ≡ 0) × (1 ≤ contexts t) × (contexts t ≤ 16) × (length t.masks ≡ 256)
           → ((length t.rows % 32 ≡ 0 → ⊥) ⊎ ((length t.rows < 32) ⊎ ((512 < length t.rows) ⊎ (length t.masks ≡ 256 → ⊥)))) → ⊥
@@ -69,7 +69,7 @@ module _ (t : Tables) where
 -- two that are tried in order both pass
 before_ok : (a b : Result (Unit {0}) Fault) → before a b ≡ Ok tt → (a ≡ Ok tt) × (b ≡ Ok tt)
 before_ok (Ok u) b e = (refl, e)
-before_ok (Err f) b e = let z : ◌≡◌ {A = ℕ} 0 1 = cc in absurd (omega arith)
+before_ok (Err f) b e = cc
 
 bound_is : (o : Option ℕ) (x : ℕ) → binds_variable o x ≡ true → o ≡ Some x
 bound_is None x e = absurd (both_ways false refl e)
@@ -83,7 +83,7 @@ some_operands (Some q) e = (q.0, q.1, refl)
 cons_low : (p : Script) (c a b : ℕ) → cons_operands (term p c) ≡ Some (a, b) → c ≤ last p
 unfolding term_at last
 cons_low p c a b e = ⊎_elim
-    (λ l. let s = sym (ap cons_operands (get_or_past (Quote 0 ∷ p.terms) c (Quote 0) (omega arith))) ∙ e in let z : ◌≡◌ {A = ℕ} 0 1 = cc in absurd (omega arith))
+    (λ l. let s = sym (ap cons_operands (get_or_past (Quote 0 ∷ p.terms) c (Quote 0) (omega arith))) ∙ e in cc)
     (λ l. l) (cases_lt (length p.terms) c)
 
 module _ (p : Script) (t : Tables) where
@@ -93,7 +93,7 @@ module _ (p : Script) (t : Tables) where
       let a = before_ok (memory_verdict t) _ e in
       let b = before_ok (rows_verdict p t) _ a.1 in
       let c = before_ok (masks_verdict p t) (facts_verdict p t) b.1 in
-      (⊎_elim (λ m. m) (λ m. let s = sym (cond-false (memory_right t) (Ok tt) (Err MemoryLength) m) ∙ a.0 in let z : ◌≡◌ {A = ℕ} 0 1 = cc in absurd (omega arith)) (cases_Bool (memory_right t)), sym b.0, sym c.0, sym c.1)
+      (⊎_elim (λ m. m) (λ m. let s = sym (cond-false (memory_right t) (Ok tt) (Err MemoryLength) m) ∙ a.0 in cc) (cases_Bool (memory_right t)), sym b.0, sym c.0, sym c.1)
 
   -- a row that is right
   row_parts : (k : ℕ) → row_right p t k ≡ true → ((ltb 0 k || zero_row t k) ≡ true) × (entries_right p t k ≡ true) × (new_row t k ≡ true)
@@ -164,7 +164,7 @@ module _ (p : Script) (t : Tables) where
         both_pass (memory_from t (omega (arith, d.whole_rows)) d.some_context d.few_contexts d.all_masks)
         (rows_right p t row_since)
         (masks_right p t (λ l _. mask_since l))
-        (facts_right p t (λ s h. sym (fact_none p t s 4608 (λ k l. refuted _ (λ e. omega (arith, (holds_parts t.members s k e).1))) (λ k l e. right_since k (d.named s k e)))))
+        (facts_right p t (λ s h. sym (fact_none p t s 4608 (λ k l. false_from_ne_true _ (λ e. omega (arith, (holds_parts t.members s k e).1))) (λ k l e. right_since k (d.named s k e)))))
 
 -- the code's way to each answer
 
@@ -189,7 +189,7 @@ module _ (p : Script) (t : Tables) where
       past_masks k = past_memory ∙ ap (λ o. before o (before (masks_verdict p t) (facts_verdict p t))) (sym r) ∙ ap (λ o. before o (facts_verdict p t)) (sym k)
 
   pub not_due : WellFormed p → (e : Fault) → due_form p t ≡ Err e → DueForm p t → ⊥
-  not_due w e q d = let s = sym q ∙ since_due p t w d in let z : ◌≡◌ {A = ℕ} 0 1 = cc in omega arith
+  not_due w e q d = let s = sym q ∙ since_due p t w d in cc
 
   pub declined : (e : Fault) → due_form p t ≡ Err e → Err e ≡ proposal_of p t
   declined e q = ap (λ o. taken o t) (sym q)

@@ -1,6 +1,9 @@
 -- What a fact names.
-use Rattle.std.proofs.Common.{◌≡◌, ℕ, ◌<◌, ◌≤◌, Bool, true, false, ◌&&◌, eqb, ltb, ◌⊎◌, is_some, None, sym, refl, ap, subst, inl, inr, ⊎_elim, arith}
+use Rattle.std.proofs.Common.{◌≡◌, ℕ, ◌<◌, ◌≤◌, Bool, true, false, ◌&&◌, eqb, ltb, ◌⊎◌, is_some, Some, None, Option, MatchOption, sym, refl, ap, ◌∙◌, subst, inl, inr, ⊎_elim, arith}
+use Rattle.std.specs.Cmp.Derive.{one_truth}
 use Rattle.std.proofs.lemmas.Bool.{eqb-true, eq-eqb, ltb-true, lt-ltb, and_parts, and_from, or_cases, or_left, or_right, both_ways}
+use Rattle.std.proofs.lemmas.Option.{cond_some}
+use Rattle.terms.specs.declared.term.Term.{Term}
 use Rattle.terms.specs.Script.{Script, term, find_term, is_body, cons_operands}
 use Rattle.terms.specs.WellFormed.{WellFormed}
 use Rattle.terms.proofs.Nesting.{binder_label, body_binds}
@@ -12,11 +15,6 @@ use Rattle.proposals.specs.Counting.{some}
 use Rattle.proposals.specs.Tables.{Tables, contexts}
 use Rattle.proposals.specs.DueForm.{names_function, names_pair, fact_right, names}
 use Rattle.proposals.proofs.Counts.{some_at, some_where}
-
-pub same_bool : (a b : Bool) → (a ≡ true → b ≡ true) → (b ≡ true → a ≡ true) → a ≡ b
-same_bool true b f g = sym (f refl)
-same_bool false true f g = g refl
-same_bool false false f g = refl
 
 module _ (p : Script) (t : Tables) (f : ℕ) where
   abbrev pub FunctionNamed : Type 0
@@ -63,7 +61,7 @@ module _ (p : Script) (w : WellFormed p) (t : Tables) (few : contexts t ≤ 16) 
   body_low g e = omega (arith, w.few_terms, (binder_label p w g (body_binds p g e)).1)
 
   at_symbol : (s : ℕ) → (s < 32) × (s ≡ f) → ltb s p.symbols ≡ fact_right p t f
-  at_symbol s h = same_bool _ _ (λ e. right_symbol p t f (omega (arith, ltb-true _ _ e, h.1))) (λ e. back (right_cases p t f e))
+  at_symbol s h = one_truth _ _ (λ e. right_symbol p t f (omega (arith, ltb-true _ _ e, h.1))) (λ e. back (right_cases p t f e))
     where
       back : (f ≡ 32) ⊎ ((f < p.symbols) ⊎ (FunctionNamed p t f ⊎ PairNamed p t f)) → ltb s p.symbols ≡ true
       back (inl a) = absurd (omega (arith, h.0, h.1))
@@ -75,7 +73,7 @@ module _ (p : Script) (w : WellFormed p) (t : Tables) (few : contexts t ≤ 16) 
   at_number h = sym (right_number p t f (sym h))
 
   at_function : (g : ℕ) → (g < 256) × (function_fact g ≡ f) → is_body p g ≡ fact_right p t f
-  at_function g h = same_bool _ _ (λ e. right_function p t f (g, h.0, e, h.1)) (λ e. back (right_cases p t f e))
+  at_function g h = one_truth _ _ (λ e. right_function p t f (g, h.0, e, h.1)) (λ e. back (right_cases p t f e))
     where
       back : (f ≡ 32) ⊎ ((f < p.symbols) ⊎ (FunctionNamed p t f ⊎ PairNamed p t f)) → is_body p g ≡ true
       back (inl a) = absurd (omega (arith, h.1))
@@ -96,7 +94,7 @@ module _ (p : Script) (w : WellFormed p) (t : Tables) (few : contexts t ≤ 16) 
           (omega (arith, ek, a.3), subst (λ (x : ℕ). is_some (cons_operands (term p x)) ≡ true) ec a.4)
 
   at_pair : (c k : ℕ) → ((c < 256) × (k < 16)) × (pair_fact c k ≡ f) → (ltb k (contexts t) && is_some (cons_operands (term p c))) ≡ fact_right p t f
-  at_pair c k h = same_bool _ _
+  at_pair c k h = one_truth _ _
       (λ e. let q = and_parts (ltb k (contexts t)) _ e in right_pair p t f (c, k, h.0.0, ltb-true _ _ q.0, q.1, h.1))
       (λ e. let q = pair_same c k (h.0.1, h.1) e in and_from _ _ (lt-ltb _ _ q.0) q.1)
 
@@ -107,7 +105,7 @@ module _ (p : Script) (w : WellFormed p) (t : Tables) (few : contexts t ≤ 16) 
   at_fact (fact.Pair c k) h = at_pair c k h
 
   pub at_none : ((x : Fact) → ProperFact x → fact_number x ≡ f → ⊥) → false ≡ fact_right p t f
-  at_none h = same_bool _ _ (λ e. absurd (both_ways false refl e)) (λ e. absurd (back (right_cases p t f e)))
+  at_none h = one_truth _ _ (λ e. absurd (both_ways false refl e)) (λ e. absurd (back (right_cases p t f e)))
     where
       back : (f ≡ 32) ⊎ ((f < p.symbols) ⊎ (FunctionNamed p t f ⊎ PairNamed p t f)) → ⊥
       back (inl a) = h fact.Number tt (sym a)
@@ -116,5 +114,7 @@ module _ (p : Script) (w : WellFormed p) (t : Tables) (few : contexts t ≤ 16) 
       back (inr (inr (inr a))) = h (fact.Pair a.0 a.1) (a.2, omega (arith, a.3, few)) a.5
 
 -- where no term is, no cons is
-pub no_cons : (p : Script) (l : ℕ) → None ≡ find_term p l → false ≡ is_some (cons_operands (term p l))
-no_cons p l e = ap (λ u. is_some (cons_operands u)) (sym (nothing_there p l e))
+pub cons_read : (p : Script) (l : ℕ) (o : Option Term) (b : Bool) (Q : Term → Type 0) → o ≡ find_term p l → MatchOption o (b ≡ false) Q
+    → ((x : Term) → Q x → b ≡ is_some (cons_operands x)) → b ≡ is_some (cons_operands (term p l))
+cons_read p l None b Q e m at = m ∙ ap (λ u. is_some (cons_operands u)) (sym (nothing_there p l e))
+cons_read p l (Some x) b Q e m at = at x m ∙ ap (λ u. is_some (cons_operands u)) (sym (cond_some _ _ _ (sym e)).1)

@@ -2,7 +2,9 @@
 use Rattle.std.specs.Prelude.{ℕ, Bool, List, Ok, Err, Result}
 use Rattle.faults.specs.declared.fault.Fault.{Fault}
 use Rattle.terms.specs.Script.{Script}
+use Rattle.terms.specs.Model.{model}
 use Rattle.proposals.specs.declared.proposal.Proposal.{Proposal}
+use Rattle.proposals.specs.declared.proposal.form.Inspection.{Inspection}
 use Rattle.proposals.specs.Tables.{Tables}
 use Rattle.proposals.specs.DueForm.{due_form}
 
@@ -13,6 +15,13 @@ lent h rs ms = record { members = h; rows = rs; masks = ms }
 -- m tells what a fact table means
 abbrev pub tables : {F : Type 0} → (F → ℕ → ℕ → Bool) → Proposal F → Tables
 tables m q = lent (m q.facts.now) q.rows.now q.masks.now
+
+-- the script and the tables of an inspection
+abbrev pub script : {F : Type 0} → Inspection F → Script
+script i = model i.program.now
+
+abbrev pub inspected : {F : Type 0} → (F → ℕ → ℕ → Bool) → Inspection F → Tables
+inspected m i = tables m i.proposal.now
 
 abbrev pub made_tables : {F : Type 0} → (F → ℕ → ℕ → Bool) → Result (Proposal F) Fault → Result Tables Fault
 made_tables m (Ok q) = Ok (tables m q)

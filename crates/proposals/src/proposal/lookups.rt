@@ -9,10 +9,7 @@ use facts::Facts;
 fn number(numbers: &[u16], at: usize) -> u16
     ensures { result ≡ slice_index numbers.now at }
 {
-    match numbers.get(at) {
-        Some(number) => *number,
-        None => 0,
-    }
+    numbers.get(at).copied().unwrap_or(0)
 }
 
 impl<'a, F: Facts> Proposal<'a, F> {
@@ -48,35 +45,20 @@ impl<'a, F: Facts> Proposal<'a, F> {
         if context >= self.contexts() || variable > 31 {
             return None;
         }
-        for row in 0..self.contexts() {
-            if self.extends(row, context, variable, birthplace) {
-                return Some(row);
-            }
-        }
-        None
-    }
-
-    // the context with another birthplace for the variable, at x
-    fn entry_with(&self, context: u8, variable: u8, birthplace: u8, x: u8) -> u16
-        ensures { result ≡ entry_with (tables F.members self.now) context variable birthplace x }
-    {
-        if variable == x {
-            birthplace as u16
-        } else {
-            self.entry(context, x)
-        }
+        (0..self.contexts()).find(|row| self.extends(*row, context, variable, birthplace))
     }
 
     // whether `row` is the context with another birthplace for the variable
     fn extends(&self, row: u8, context: u8, variable: u8, birthplace: u8) -> bool
         ensures { result ≡ extends (tables F.members self.now) context variable birthplace row }
     {
-        for x in 0..32 {
-            let wanted = self.entry_with(context, variable, birthplace, x);
-            if self.entry(row, x) != wanted {
-                return false;
-            }
-        }
-        true
+        (0..32).all(|x| {
+            let wanted = if x == variable {
+                birthplace as u16
+            } else {
+                self.entry(context, x)
+            };
+            self.entry(row, x) == wanted
+        })
     }
 }

@@ -4,6 +4,7 @@ ghost use Rattle.proposals.specs.Laws.{DueForm};
 ghost use Rattle.proposals.specs.Model.{lent, made_tables, proposal_of};
 
 use crate::proposal::Proposal;
+use crate::proposal::form::Inspection;
 use facts::Facts;
 use faults::Fault;
 use terms::Program;
@@ -23,9 +24,13 @@ impl<'a, F: Facts> Proposal<'a, F> {
             return Err(Fault::MemoryLength);
         }
         let proposal = Proposal { facts, rows, masks };
-        proposal.check_rows(program)?;
-        proposal.check_masks(program)?;
-        proposal.check_facts(program)?;
+        let inspection = Inspection {
+            program,
+            proposal: &proposal,
+        };
+        inspection.check_rows()?;
+        inspection.check_masks()?;
+        inspection.check_facts()?;
         Ok(proposal)
     }
 }

@@ -1,9 +1,6 @@
-use Rattle.std.proofs.Common.{sym, arith}
-use Rattle.proposals.proofs.Rows.{old_row, no_old_row}
+use Rattle.std.proofs.Common.{refl, rules, tests}
+use Rattle.proposals.proofs.Counts.{all_in_range}
 use Rattle.proposals.proofs.proposal.Proposal.is_new.Goals as goal
 
-pub returns-then-same_rows : goal.returns-then-same_rows
-returns-then-same_rows g c = old_row _ _ _ c.loop-earlier-test.true (sym c.if-same_rows.ensures)
-
 pub returns : goal.returns
-returns g c = no_old_row _ _ (λ j l. c.loop-earlier.invariant j (omega arith))
+returns g c = all_in_range _ c.all.new.self _ _ c.all.ensures.ran refl (λ x b q k. search (rules, tests))

@@ -1,10 +1,8 @@
-use Rattle.std.proofs.Common.{sym, ◌∙◌, arith}
-use Rattle.proposals.proofs.Rows.{same_not, same_all}
+use Rattle.std.proofs.Common.{refl, rules, tests}
+use Rattle.proposals.specs.Tables.{same_rows}
+use Rattle.proposals.proofs.Counts.{all_in_range}
 use Rattle.proposals.proofs.proposal.Proposal.same_rows.Goals as goal
 
-pub returns-then-entry : goal.returns-then-entry
-returns-then-entry g c =
-    same_not _ _ _ _ c.loop-variable-test.true (λ e. c.if-entry.true (c.entry.ensures ∙ e ∙ sym c.entry-in-loop-variable.ensures))
-
 pub returns : goal.returns
-returns g c = same_all _ _ _ (λ x l. c.loop-variable.invariant x (omega arith))
+unfolding same_rows
+returns g c = all_in_range _ c.all.new.self _ _ c.all.ensures.ran refl (λ x b q k. search (rules, tests))

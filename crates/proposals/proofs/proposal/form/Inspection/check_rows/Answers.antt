@@ -1,6 +1,6 @@
 use Rattle.std.proofs.Common.{sym, arith}
 use Rattle.proposals.proofs.Verdicts.{row_wrong, rows_right}
-use Rattle.proposals.proofs.proposal.Proposal.check_rows.Goals as goal
+use Rattle.proposals.proofs.proposal.form.Inspection.check_rows.Goals as goal
 
 pub returns-then-not-row_right : goal.returns-then-not-row_right
 returns-then-not-row_right g c =

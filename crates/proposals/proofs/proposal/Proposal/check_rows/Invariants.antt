@@ -1,8 +1,0 @@
-use Rattle.std.proofs.Common.{◌≡◌, ℕ, ◌<◌, true}
-use Rattle.proposals.specs.Model.{tables}
-use Rattle.terms.specs.Model.{model}
-use Rattle.proposals.specs.DueForm.{row_right}
-use Rattle.proposals.proofs.proposal.Proposal.check_rows.Given as goal
-
-abbrev pub invariant-loop-row : goal.invariant-loop-row
-invariant-loop-row g l = (k : ℕ) → k < l.row → row_right (model l.program) (tables g.F.Facts.members l.self) k ≡ true
