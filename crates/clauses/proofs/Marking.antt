@@ -2,12 +2,11 @@
 use Rattle.std.proofs.Common.{◌≡◌, ℕ, zero, suc, ◌<◌, ◌≤◌, true, false, eqb, map, is_some, Some, None, Option, sym, refl, ap, ◌∙◌, inl, inr, arith}
 use Rattle.std.proofs.lemmas.List.{get_or_past}
 use Rattle.std.proofs.lemmas.List.FromFn.{length-map-range_with_len, get_or-map-range_with_len}
-use Rattle.std.proofs.lemmas.Bool.{and_parts, and_from, cases_lt, cond-false, both_ways, eqb-true, eq-eqb, not-true, not_from_false}
+use Rattle.std.proofs.lemmas.Bool.{false_from_ne_true, and_parts, and_from, cases_lt, cond-false, both_ways, eqb-true, eq-eqb, not-true, not_from_false}
 use Rattle.std.specs.List.{range_with_len}
 use Rattle.terms.specs.Script.{Script, last, term_at, term, binds, binds_variable, occurs}
 use Rattle.terms.specs.WellFormed.{WellFormed}
 use Rattle.terms.proofs.Nesting.{binder_label}
-use Rattle.facts.proofs.Firsts.{refuted}
 use Rattle.owners.specs.Owners.{owner, captured}
 use Rattle.owners.proofs.Laws.{owned}
 use Rattle.proposals.specs.Tables.{Tables, entry, listed}
@@ -38,7 +37,7 @@ module _ (p : Script) (W : WellFormed p) where
 
   keeps_out : (b : ℕ) → keeps_own p b ≡ true → (l : ℕ) → owner p l ≡ b → captured p l ≡ false
   unfolding keeps_own
-  keeps_out b e l o = refuted (captured p l) (λ c.
+  keeps_out b e l o = false_from_ne_true (captured p l) (λ c.
       both_ways (captured p l) (not-true _ (implies_out _ _ (every_at 256 _ e l (captured_below l c)) (eq-eqb (owner p l) b o))) c)
 
   keeps_in : (b : ℕ) → ((l : ℕ) → owner p l ≡ b → captured p l ≡ false) → keeps_own p b ≡ true

@@ -1,5 +1,5 @@
 -- Due form by what it says of the tables, both ways.
-use Rattle.std.proofs.Common.{◌≡◌, ℕ, ◌+◌, ◌*◌, ◌%◌, ◌<◌, ◌≤◌, true, false, not, ◌||◌, eqb, ltb, leb, ◌⊎◌, ◌∷◌, length, get_or, is_some, Some, None, Ok, Err, Option, Result, sym, refl, ap, ◌∙◌, subst, inl, inr, ⊎_elim, arith}
+use Rattle.std.proofs.Common.{◌≡◌, ℕ, ◌+◌, ◌*◌, ◌%◌, ◌<◌, ◌≤◌, Bool, true, false, not, ◌||◌, eqb, ltb, leb, ◌⊎◌, ◌∷◌, length, get_or, is_some, Some, None, Ok, Err, Option, Result, MatchResult, IsErrAnd, sym, refl, ap, ◌∙◌, subst, inl, inr, ⊎_elim, arith}
 use native.Mathlib.Nat.{zero-div}
 use Rattle.std.proofs.lemmas.List.{get_or_past}
 use Rattle.std.proofs.lemmas.Bool.{false_from_ne_true, eqb-true, eq-eqb, leb-true, le-leb, ltb-true, lt-ltb, le-ltb, and_parts, and_from, or_cases, or_left, or_right, not-true, not_from_false, cond-true, cond-false, cases_lt, cases_eq, cases_Bool, both_ways}
@@ -13,7 +13,8 @@ use Rattle.facts.specs.Words.{bit}
 use Rattle.facts.proofs.Firsts.{holds_parts}
 use Rattle.proposals.specs.Tables.{Tables, contexts, entry, listed, same_rows}
 use Rattle.proposals.specs.DueForm.{memory_right, zero_row, entry_right, entries_right, new_row, row_right, may_list, mask_right, fact_right, memory_verdict, rows_verdict, masks_verdict, facts_verdict, before, due_form}
-use Rattle.proposals.specs.Model.{taken, proposal_of}
+use Rattle.proposals.specs.declared.proposal.Proposal.{Proposal}
+use Rattle.proposals.specs.Model.{made_tables, taken, proposal_of}
 use Rattle.proposals.specs.Laws.{Named, DueForm}
 use Rattle.proposals.specs.Laws as law
 use Rattle.proposals.proofs.Counts.{every_from, every_at}
@@ -38,16 +39,14 @@ module _ (t : Tables) where
   unfolding contexts
   memory_lengths a b c d = memory_from a (omega arith) (omega arith) d
 
-  pub memory_wrong : ((length t.rows % 32 ≡ 0 → ⊥) ⊎ ((length t.rows < 32) ⊎ ((512 < length t.rows) ⊎ (length t.masks ≡ 256 → ⊥)))) → memory_right t ≡ false
+  pub memory_wrong : (length t.rows % 32 ≡ 0 → ⊥)
+      ⊎ (((length t.rows % 32 ≡ 0) × (length t.rows < 32))
+      ⊎ (((length t.rows % 32 ≡ 0) × (32 ≤ length t.rows) × (512 < length t.rows))
+      ⊎ ((length t.rows % 32 ≡ 0) × (32 ≤ length t.rows) × (length t.rows ≤ 512) × (length t.masks ≡ 256 → ⊥)))) → memory_right t ≡ false
   unfolding contexts
-  memory_wrong h = false_from_ne_true _ (λ e. at (memory_parts e) h)
-    where
-      at : (length t.rows % 32 ≡ 0) × (1 ≤ contexts t) × (contexts t ≤ 16) × (length t.masks ≡ 256)
-          → ((length t.rows % 32 ≡ 0 → ⊥) ⊎ ((length t.rows < 32) ⊎ ((512 < length t.rows) ⊎ (length t.masks ≡ 256 → ⊥)))) → ⊥
-      at m (inl d) = d m.0
-      at m (inr (inl d)) = omega (arith, m.1)
-      at m (inr (inr (inl d))) = omega (arith, m.0, m.2)
-      at m (inr (inr (inr d))) = d m.3
+  memory_wrong h = false_from_ne_true _ (λ e.
+      let m = memory_parts e in
+      ⊎_elim (λ d. d m.0) (⊎_elim (λ d. omega (arith, d.1, m.1)) (⊎_elim (λ d. omega (arith, d.2, m.0, m.2)) (λ d. d.3 m.3))) h)
 
   pub whole : length t.rows % 32 ≡ 0 → length t.rows ≡ 32 * contexts t
   unfolding contexts
@@ -188,11 +187,10 @@ module _ (p : Script) (t : Tables) where
       pub past_masks : Ok tt ≡ masks_verdict p t → due_form p t ≡ facts_verdict p t
       past_masks k = past_memory ∙ ap (λ o. before o (before (masks_verdict p t) (facts_verdict p t))) (sym r) ∙ ap (λ o. before o (facts_verdict p t)) (sym k)
 
-  pub not_due : WellFormed p → (e : Fault) → due_form p t ≡ Err e → DueForm p t → ⊥
-  not_due w e q d = let s = sym q ∙ since_due p t w d in cc
-
-  pub declined : (e : Fault) → due_form p t ≡ Err e → Err e ≡ proposal_of p t
-  declined e q = ap (λ o. taken o t) (sym q)
+  pub refusal : WellFormed p → {F : Type 0} (m : F → ℕ → ℕ → Bool) (r : Result (Proposal F) Fault) (e : Fault) → IsErrAnd r (λ f. f ≡ e) → due_form p t ≡ Err e
+      → record { verdict : made_tables m r ≡ proposal_of p t; exactly : MatchResult r (λ _. DueForm p t) (λ _. DueForm p t → ⊥) }
+  refusal w m (Ok q) e h d = absurd h
+  refusal w m (Err f) e h d = record { verdict = ap Err h ∙ ap (λ o. taken o t) (sym d); exactly = λ form. let s = sym d ∙ since_due p t w form in cc }
 
   pub made : due_form p t ≡ Ok tt → Ok t ≡ proposal_of p t
   made q = ap (λ o. taken o t) (sym q)
