@@ -1,8 +1,8 @@
 -- the first set bit from a given number on, in the words of a set
-use Rattle.std.proofs.Common.{◌≡◌, ℕ, ◌+◌, ◌-◌, ◌*◌, ◌/◌, ◌%◌, ◌^◌, ◌<◌, ◌≤◌, true, false, List, get_or, Some, sym, refl, ap, ◌∙◌, ⊎_elim, add-zero, div-one, arith, shr-shr, w64}
+use Rattle.std.proofs.Common.{◌≡◌, ℕ, ◌+◌, ◌-◌, ◌*◌, ◌/◌, ◌%◌, ◌^◌, ◌<◌, ◌≤◌, true, false, Bool, not, eqb, List, get_or, Some, sym, refl, ap, ◌∙◌, ⊎_elim, add-zero, div-one, arith, shr-shr, w64}
 use lib.Pow.{shr_le}
 use Rattle.std.specs.Int.{bit_at, trailing_zeros}
-use Rattle.std.proofs.lemmas.Bool.{eq-eqb, both_ways, cases_lt}
+use Rattle.std.proofs.lemmas.Bool.{eq-eqb, eqb-true, eqb-false, not-true, not-false, both_ways, cases_lt}
 use Rattle.std.proofs.lemmas.Nat.Bits.{bit_at-zero, bit_at_above, bit_at-trailing_zeros}
 use Rattle.facts.specs.Table.{holds, Smallest}
 use Rattle.facts.specs.Words.{bit, in_words}
@@ -49,17 +49,21 @@ module _ (ws : List ℕ) (s q : ℕ) (hs : s < 4608) (hq : q < 72) where
             ap (holds (in_words ws) s) (sym f) ∙ agrees (i + m) (omega arith) ∙ sym (bit_shr word i m) ∙ bit_clear (word / 2 ^ i) m (lowest.2 m (omega arith)),
       )
 
-  pub first_in_word : word < 2 ^ 64 → (word ≡ 0 → ⊥)
+  first_in_word : word < 2 ^ 64 → (word ≡ 0 → ⊥)
       → (holds (in_words ws) s (64 * q + trailing_zeros w64 word) ≡ true)
       × ((k : ℕ) → 64 * q ≤ k → k < 64 * q + trailing_zeros w64 word → holds (in_words ws) s k ≡ false)
   first_in_word fits nz = simp (div-one, add-zero) at (first_from 0 fits (λ z. nz (sym (div-one word) ∙ z)))
+
+-- word w of set s has a fact
+abbrev pub filled : List ℕ → ℕ → ℕ → Bool
+filled ws s w = not (eqb (get_or ws (72 * s + w) 0) 0)
 
 -- the word that fact `from` stands in
 module _ (ws : List ℕ) (s from : ℕ) (hs : s < 4608) (hf : from < 4608) where
   whole : 64 * (from / 64) + from % 64 ≡ from
   whole = omega arith
 
-  pub none_after : get_or ws (72 * s + from / 64) 0 / 2 ^ (from % 64) ≡ 0 → (k : ℕ) → from ≤ k → k < 64 * (from / 64 + 1) → holds (in_words ws) s k ≡ false
+  none_after : get_or ws (72 * s + from / 64) 0 / 2 ^ (from % 64) ≡ 0 → (k : ℕ) → from ≤ k → k < 64 * (from / 64 + 1) → holds (in_words ws) s k ≡ false
   none_after z k lo hi = none_from ws s (from / 64) hs (omega arith) (from % 64) z k (omega arith) (omega arith)
 
   pub first_after : get_or ws (72 * s + from / 64) 0 < 2 ^ 64 → (get_or ws (72 * s + from / 64) 0 / 2 ^ (from % 64) ≡ 0 → ⊥)
@@ -67,3 +71,18 @@ module _ (ws : List ℕ) (s from : ℕ) (hs : s < 4608) (hf : from < 4608) where
   first_after fits nz =
       let f = rw whole at (first_from ws s (from / 64) hs (omega arith) (from % 64) fits nz) in
       (omega arith, f.0, f.1)
+
+  -- where that has none, and the words after it have none up to word q
+  module _ (z : get_or ws (72 * s + from / 64) 0 / 2 ^ (from % 64) ≡ 0) (q : ℕ) (h : q ≤ 72) (none : (w : ℕ) → from / 64 + 1 ≤ w → w < q → filled ws s w ≡ false) where
+    pub none_before : (k : ℕ) → from ≤ k → k < 64 * q → holds (in_words ws) s k ≡ false
+    none_before k lo hi = ⊎_elim (none_after z k lo)
+        (λ l.
+        let e : get_or ws (72 * s + k / 64) 0 ≡ 0 = eqb-true _ _ (not-false _ (none (k / 64) (omega arith) (omega arith))) in
+        none_from ws s (k / 64) hs (omega arith) 0 (div-one (get_or ws (72 * s + k / 64) 0) ∙ e) k (omega arith) (omega arith))
+        (cases_lt k (64 * (from / 64 + 1)))
+
+    pub first_later : from / 64 + 1 ≤ q → q < 72 → filled ws s q ≡ true → get_or ws (72 * s + q) 0 < 2 ^ 64
+        → Smallest (holds (in_words ws) s) from (Some (64 * q + trailing_zeros w64 (get_or ws (72 * s + q) 0)))
+    first_later l g full fits =
+        let f = first_in_word ws s q hs g fits (eqb-false _ _ (not-true _ full)) in
+        (omega arith, f.0, λ k lo hi. ⊎_elim (none_before k lo) (λ m. f.1 k m hi) (cases_lt k (64 * q)))

@@ -48,12 +48,7 @@ impl<'a> Facts for WordTable<'a> {
         if rest != 0 {
             return Some(from + rest.trailing_zeros() as u16);
         }
-        for w in first + 1..ROW {
-            let word = self.words[base + w];
-            if word != 0 {
-                return Some(64 * w as u16 + word.trailing_zeros() as u16);
-            }
-        }
-        None
+        let w = (first + 1..ROW).find(|w| self.words[base + *w] != 0)?;
+        Some(64 * w as u16 + self.words[base + w].trailing_zeros() as u16)
     }
 }
