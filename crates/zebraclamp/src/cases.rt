@@ -1,8 +1,8 @@
 mod answer;
+mod case;
 mod command;
 mod session;
 mod tally;
 
-pub(crate) use crate::cases::answer::Answer;
-pub(crate) use crate::cases::session::{Reply, Session};
+pub(crate) use crate::cases::session::Session;
 pub(crate) use crate::cases::tally::Tally;

@@ -2,4 +2,4 @@ mod entry;
 mod tables;
 
 pub(crate) use crate::entries::entry::Entry;
-pub(crate) use crate::entries::tables::Tables;
+pub(crate) use crate::entries::tables::{TableKind, Tables};

@@ -1,5 +1,6 @@
+// What is found over one of two things of a kind, or over both.
 mod finding;
-mod inquiry;
+mod sides;
 
-pub(crate) use crate::findings::finding::{Findings, find};
-pub(crate) use crate::findings::inquiry::Inquiry;
+pub(crate) use crate::findings::finding::{Finding, Findings};
+pub(crate) use crate::findings::sides::Sides;

@@ -5,90 +5,76 @@ mod cases;
 mod drafts;
 mod entries;
 mod findings;
+mod inquiries;
 mod lines;
 mod notation;
 mod scripts;
 mod verdicts;
 
-use crate::cases::{Reply, Session, Tally};
+use crate::cases::{Session, Tally};
 use crate::lines::Mistake;
 use std::fs::File;
 use std::io::{BufRead, BufReader, Read};
 use std::{env, io};
 
-// Where a line stands, as error lines tell it.
-#[derive(Clone, Copy)]
-struct Place<'a> {
+// The lines of one source, which `source` names in error lines, and what has come of them.
+#[derive(Drop)]
+struct Replay<'a> {
+    rt: &'a HostRuntime,
+    tally: &'a mut Tally,
     source: &'a str,
     line: usize,
+    session: Session,
 }
 
-// Carries out the lines of one source, which `source` names in error lines.
-fn replay<R: Read + Drop>(
-    rt: &HostRuntime,
-    source: &str,
-    reader: R,
-    tally: &mut Tally,
-) -> io::Result<()> {
-    let mut session = Session::new(rt.alloc());
-    let mut line = 0usize;
-    for text in BufReader::new(rt.alloc(), reader)?.lines(rt.alloc()) {
-        line = line.saturating_add(1);
-        if !carry_out(rt, Place { source, line }, text, &mut session, tally)? {
-            break;
+impl<'a> Replay<'a> {
+    fn new(rt: &'a HostRuntime, tally: &'a mut Tally, source: &'a str) -> Replay<'a> {
+        Replay {
+            rt,
+            tally,
+            source,
+            line: 0,
+            session: Session::new(rt.alloc()),
         }
     }
-    Ok(())
-}
 
-// false where the source gives no more lines
-fn carry_out(
-    rt: &HostRuntime,
-    place: Place<'_>,
-    text: io::Result<String>,
-    session: &mut Session,
-    tally: &mut Tally,
-) -> io::Result<bool> {
-    match text {
-        Ok(text) => {
-            let reply = session.reply(rt.alloc(), text.as_str())?;
-            say(rt, place, reply, tally)?;
-            Ok(true)
+    fn run<R: Read + Drop>(mut self, reader: R) -> io::Result<()> {
+        let heap = self.rt.alloc();
+        let lines = BufReader::new(heap, reader)?.lines(heap);
+        for (line, text) in (1..=usize::MAX).zip(lines) {
+            self.line = line;
+            match text {
+                Ok(text) => self.reply(text.as_str())?,
+                Err(e) if matches!(e.kind(), io::ErrorKind::InvalidData) => {
+                    self.session.break_off();
+                    self.complain(Mistake::Garbled)?;
+                }
+                Err(_) => return self.complain(Mistake::Unreadable),
+            }
         }
-        Err(e) => {
-            session.break_off();
-            let mistake = Mistake::of_reading(e.kind());
-            complain(rt, place, mistake, tally)?;
-            Ok(!matches!(mistake, Mistake::Unreadable))
+        Ok(())
+    }
+
+    fn reply(&mut self, line: &str) -> io::Result<()> {
+        match self.session.reply(line)? {
+            None => Ok(()),
+            Some(Ok(answer)) => {
+                self.tally.command(&answer);
+                println!(self.rt; "{answer}")
+            }
+            Some(Err(mistake)) => self.complain(mistake),
         }
     }
-}
 
-fn say(rt: &HostRuntime, place: Place<'_>, reply: Reply<'_>, tally: &mut Tally) -> io::Result<()> {
-    match reply {
-        Reply::Nothing => Ok(()),
-        Reply::Answer(answer) => {
-            tally.command(&answer);
-            println!(rt; "{answer}")
-        }
-        Reply::Mistake(mistake) => complain(rt, place, mistake, tally),
+    fn complain(&mut self, mistake: Mistake<'_>) -> io::Result<()> {
+        self.tally.error();
+        println!(self.rt; "error {}:{}: {mistake}", self.source, self.line)
     }
 }
 
-fn complain(
-    rt: &HostRuntime,
-    place: Place<'_>,
-    mistake: Mistake<'_>,
-    tally: &mut Tally,
-) -> io::Result<()> {
-    let Place { source, line } = place;
-    tally.error();
-    println!(rt; "error {source}:{line}: {mistake}")
-}
-
-fn replay_file(rt: &HostRuntime, name: &str, tally: &mut Tally) -> io::Result<()> {
+fn replay_file(rt: &HostRuntime, tally: &mut Tally, name: &str) -> io::Result<()> {
     match File::open(rt, name) {
-        Ok(file) => replay(rt, name, file, tally),
+        Ok(file) => Replay::new(rt, tally, name).run(file),
         Err(_) => {
             tally.error();
             println!(rt; "error {name}: expected a file, found none that can be opened")
@@ -98,13 +84,12 @@ fn replay_file(rt: &HostRuntime, name: &str, tally: &mut Tally) -> io::Result<()
 
 fn main(rt: HostRuntime) -> io::Result<()> {
     let mut tally = Tally::new();
-    let mut named = false;
-    for name in env::args(&rt)?.skip(1) {
-        named = true;
-        replay_file(&rt, name.as_str(), &mut tally)?;
+    let mut names = env::args(&rt)?.skip(1).peekable();
+    if names.peek().is_none() {
+        Replay::new(&rt, &mut tally, "stdin").run(rt.stdin())?;
     }
-    if !named {
-        replay(&rt, "stdin", rt.stdin(), &mut tally)?;
+    for name in names {
+        replay_file(&rt, &mut tally, name.as_str())?;
     }
     println!(rt; "{tally}")
 }

@@ -1,6 +1,6 @@
-// Sets and facts by their names: C(l,k), T(x), E(b); number, symbol S, function G, pair C K.
-mod reading;
-mod showing;
+// Sets and facts by their numbers or names: C(l,k), T(x), E(b); number, symbol S, function G, pair C K.
+mod fact_number;
+mod set_number;
 
-pub(crate) use crate::notation::reading::{read_fact, read_set};
-pub(crate) use crate::notation::showing::{show_fact, show_set};
+pub(crate) use crate::notation::fact_number::FactNumber;
+pub(crate) use crate::notation::set_number::SetNumber;

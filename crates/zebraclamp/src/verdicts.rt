@@ -1,5 +1,5 @@
-mod finding;
 mod question;
+mod ruling;
 mod verdict;
 
 pub(crate) use crate::verdicts::question::Question;

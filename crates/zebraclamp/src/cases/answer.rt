@@ -1,28 +1,33 @@
 use crate::drafts::Entered;
+use crate::entries::TableKind;
 use crate::findings::Findings;
+use crate::inquiries::{Listing, StoreKind};
+use crate::lines::Mistake;
 use crate::scripts::Said;
 use crate::verdicts::Verdict;
 use std::fmt;
-use std::fmt::Display;
 
 // What came of a command: the line that is printed for it.
 #[derive(Drop)]
 pub(crate) enum Answer<'a> {
     Case { name: &'a str },
     Said(Said),
-    Owners(Findings),
+    Owners(Findings<StoreKind, Listing>),
     Entered(Entered),
     Verdict(Verdict),
 }
+
+// What is said to a command.
+pub(crate) type Reply<'a> = Result<Answer<'a>, Mistake<'a>>;
 
 impl fmt::Display for Answer<'_> {
     fn fmt<W: fmt::Write>(&self, f: &mut fmt::Formatter<W>) -> fmt::Result {
         match self {
             Answer::Case { name } => write!(f, "case {name}"),
-            Answer::Said(said) => said.fmt(f),
-            Answer::Owners(findings) => findings.fmt(f),
-            Answer::Entered(entered) => entered.fmt(f),
-            Answer::Verdict(verdict) => verdict.fmt(f),
+            Answer::Said(said) => write!(f, "{said}"),
+            Answer::Owners(findings) => write!(f, "owners {findings}"),
+            Answer::Entered(entered) => write!(f, "{entered}"),
+            Answer::Verdict(verdict) => write!(f, "{verdict}"),
         }
     }
 }

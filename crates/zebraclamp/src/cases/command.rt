@@ -1,76 +1,46 @@
 use crate::entries::Entry;
-use crate::findings::Inquiry;
-use crate::lines::{Expected, Mistake, Words};
+use crate::inquiries::Inquiry;
+use crate::lines::{Mistake, Words};
 use crate::scripts::Saying;
 use crate::verdicts::Question;
 
+// A command within a case.
 #[derive(Clone, Copy)]
-pub(crate) enum Command<'a> {
-    Case { name: &'a str },
+pub(crate) enum Command {
     Say(Saying),
     Owners(Inquiry),
     Enter(Entry),
     Ask(Question),
 }
 
-impl<'a> Command<'a> {
+impl Command {
     // the command of a line that has words
-    pub(crate) fn read(words: &mut Words<'a>) -> Result<Command<'a>, Mistake<'a>> {
+    pub(crate) fn read<'a>(words: &mut Words<'a>) -> Result<Command, Mistake<'a>> {
         let name = words.take().unwrap_or("");
-        match read_whole(name, words) {
-            Ok(Some(command)) => Ok(command),
-            Ok(None) => Err(Mistake::Expected {
-                what: "a command",
-                after: "",
-                found: Some(name),
-            }),
-            Err(expected) => Err(words.mistake(expected)),
-        }
-    }
-}
-
-// none if no command has this name
-fn read_whole<'a>(name: &str, words: &mut Words<'a>) -> Result<Option<Command<'a>>, Expected> {
-    let Some(command) = read_named(name, words)? else {
-        return Ok(None);
-    };
-    words.end()?;
-    Ok(Some(command))
-}
-
-// Each of these reads the commands of one kind, and leaves other names to the next.
-fn read_named<'a>(name: &str, words: &mut Words<'a>) -> Result<Option<Command<'a>>, Expected> {
-    if name == "case" {
-        let name = words.word("a name")?;
-        return Ok(Some(Command::Case { name }));
-    }
-    read_saying(name, words)
-}
-
-fn read_saying<'a>(name: &str, words: &mut Words<'a>) -> Result<Option<Command<'a>>, Expected> {
-    match Saying::read(name, words) {
-        Some(saying) => Ok(Some(Command::Say(saying?))),
-        None => read_inquiry(name, words),
-    }
-}
-
-fn read_inquiry<'a>(name: &str, words: &mut Words<'a>) -> Result<Option<Command<'a>>, Expected> {
-    match Inquiry::read(name, words) {
-        Some(inquiry) => Ok(Some(Command::Owners(inquiry?))),
-        None => read_entry(name, words),
-    }
-}
-
-fn read_entry<'a>(name: &str, words: &mut Words<'a>) -> Result<Option<Command<'a>>, Expected> {
-    match Entry::read(name, words) {
-        Some(entry) => Ok(Some(Command::Enter(entry?))),
-        None => read_question(name, words),
-    }
-}
-
-fn read_question<'a>(name: &str, words: &mut Words<'a>) -> Result<Option<Command<'a>>, Expected> {
-    match Question::read(name, words) {
-        Some(question) => Ok(Some(Command::Ask(question?))),
-        None => Ok(None),
+        let command = match name {
+            "symbols" => Saying::read_symbols(words).map(Command::Say),
+            "term" => Saying::read_term(words).map(Command::Say),
+            "definition" => Saying::read_definition(words).map(Command::Say),
+            "program" => Ok(Command::Say(Saying::Program)),
+            "owners" => Inquiry::read(words).map(Command::Owners),
+            "row" => Entry::read_row(words).map(Command::Enter),
+            "mask" => Entry::read_mask(words).map(Command::Enter),
+            "listed" => Entry::read_listed(words).map(Command::Enter),
+            "fact" => Entry::read_fact(words).map(Command::Enter),
+            "numbers" => Entry::read_numbers(words).map(Command::Enter),
+            "table" => Entry::read_table(words).map(Command::Enter),
+            "proposal" => Question::read_due_form(words).map(Command::Ask),
+            "extension" => Question::read_extension(words).map(Command::Ask),
+            _ => {
+                return Err(Mistake::Expected {
+                    what: "a command",
+                    after: None,
+                    found: Some(name),
+                });
+            }
+        };
+        command
+            .and_then(|command| words.end().and(Ok(command)))
+            .map_err(|expected| words.mistake(expected))
     }
 }

@@ -1,113 +1,65 @@
-ghost use Rattle.std.specs.Prelude.{◌≡◌, true};
+ghost use Rattle.std.specs.Prelude.{◌≡◌, None};
 
-use crate::cases::answer::Answer;
-use crate::cases::command::Command;
-use crate::drafts::Draft;
-use crate::findings::Inquiry;
-use crate::lines::{Mistake, Words};
-use crate::scripts::Script;
-use crate::verdicts::{Question, judge};
+use crate::cases::answer::{Answer, Reply};
+use crate::cases::case::Case;
+use crate::lines::{Expected, Words};
 use std::alloc::{AllocError, Global};
 
-// The case under way in one source of lines; a mistake breaks it, and the next case begins anew.
+// The case under way in one source of lines: none from a mistake on until the next begins.
 #[derive(Drop)]
 pub(crate) struct Session {
-    script: Script,
-    draft: Draft,
-    broken: bool,
-}
-
-// What is said to one line: nothing to a blank one or one of a broken case.
-#[derive(Drop)]
-pub(crate) enum Reply<'a> {
-    Nothing,
-    Answer(Answer<'a>),
-    Mistake(Mistake<'a>),
+    heap: Global,
+    case: Option<Case>,
 }
 
 impl Session {
+    // what comes before the first case belongs to one without a name
     pub(crate) fn new(heap: Global) -> Session {
         Session {
-            script: Script::new(heap),
-            draft: Draft::new(heap),
-            broken: false,
+            heap,
+            case: Some(Case::new(heap)),
         }
     }
 
-    pub(crate) fn reply<'a>(
-        &mut self,
-        heap: Global,
-        line: &'a str,
-    ) -> Result<Reply<'a>, AllocError> {
+    // Nothing is said to a line without words, nor to a command where no case is under way.
+    pub(crate) fn reply<'a>(&mut self, line: &'a str) -> Result<Option<Reply<'a>>, AllocError> {
         let mut words = Words::of(line);
-        if self.passes_over(&words) {
-            return Ok(Reply::Nothing);
+        if words.accept("case") {
+            return Ok(Some(self.begin(&mut words)));
         }
-        let reply = self.obey(heap, &mut words)?;
-        self.broken = matches!(reply, Reply::Mistake(_));
-        Ok(reply)
+        let (Some(_), Some(case)) = (words.ahead(), &mut self.case) else {
+            return Ok(None);
+        };
+        let reply = case.obey(&mut words)?;
+        if reply.is_err() {
+            self.break_off();
+        }
+        Ok(Some(reply))
     }
 
-    // a line with no words, and in a broken case every line but one that begins the next
-    fn passes_over(&self, words: &Words<'_>) -> bool {
-        match words.ahead() {
-            None => true,
-            Some(first) => self.broken && first != "case",
-        }
-    }
-
-    fn obey<'a>(&mut self, heap: Global, words: &mut Words<'a>) -> Result<Reply<'a>, AllocError> {
-        match Command::read(words) {
-            Ok(command) => self.carry_out(heap, command),
-            Err(mistake) => Ok(Reply::Mistake(mistake)),
+    fn begin<'a>(&mut self, words: &mut Words<'a>) -> Reply<'a> {
+        match read_name(words) {
+            Ok(name) => {
+                self.case = Some(Case::new(self.heap));
+                Ok(Answer::Case { name })
+            }
+            Err(expected) => {
+                self.break_off();
+                Err(words.mistake(expected))
+            }
         }
     }
 
     // leaves the case, as a mistake does
     pub(crate) fn break_off(&mut self)
-        ensures { self.new.broken ≡ true }
+        ensures { self.new.case ≡ None }
     {
-        self.broken = true;
+        self.case = None;
     }
+}
 
-    fn carry_out<'a>(
-        &mut self,
-        heap: Global,
-        command: Command<'a>,
-    ) -> Result<Reply<'a>, AllocError> {
-        match command {
-            Command::Case { name } => {
-                self.script = Script::new(heap);
-                self.draft = Draft::new(heap);
-                Ok(Reply::Answer(Answer::Case { name }))
-            }
-            Command::Say(saying) => {
-                let said = self.script.carry_out(saying)?;
-                Ok(Reply::Answer(Answer::Said(said)))
-            }
-            Command::Owners(how) => self.owners(heap, how),
-            Command::Enter(entry) => {
-                let entered = self.draft.carry_out(entry)?;
-                Ok(Reply::Answer(Answer::Entered(entered)))
-            }
-            Command::Ask(question) => self.judge(heap, question),
-        }
-    }
-
-    fn owners(&self, heap: Global, how: Inquiry) -> Result<Reply<'static>, AllocError> {
-        match self.script.owners(heap, how)? {
-            Some(findings) => Ok(Reply::Answer(Answer::Owners(findings))),
-            None => Ok(Reply::Mistake(Mistake::NoProgram)),
-        }
-    }
-
-    fn judge(&self, heap: Global, question: Question) -> Result<Reply<'static>, AllocError> {
-        match self.script.made() {
-            Some(program) => {
-                let verdict = judge(heap, program, &self.draft, question)?;
-                Ok(Reply::Answer(Answer::Verdict(verdict)))
-            }
-            None => Ok(Reply::Mistake(Mistake::NoProgram)),
-        }
-    }
+fn read_name<'a>(words: &mut Words<'a>) -> Result<&'a str, Expected> {
+    let name = words.word("a name")?;
+    words.end()?;
+    Ok(name)
 }

@@ -1,11 +1,13 @@
 use crate::drafts::entered::Entered;
 use crate::entries::{Entry, Tables};
+use facts::SETS;
 use std::alloc::{AllocError, Global};
 use std::collections::{BTreeMap, BTreeSet};
 
 // What has been said of a proposal: rows one behind the other, masks by label, facts as the numbers 4608 × set + fact, and numbers that stand in the list table alone.
 #[derive(Drop)]
 pub(crate) struct Draft {
+    heap: Global,
     rows: Vec<u16>,
     masks: BTreeMap<u8, u16>,
     facts: BTreeSet<u32>,
@@ -16,11 +18,12 @@ pub(crate) struct Draft {
 impl Draft {
     pub(crate) fn new(heap: Global) -> Draft {
         Draft {
+            heap,
             rows: Vec::new(heap),
             masks: BTreeMap::new(heap),
             facts: BTreeSet::new(heap),
             numbers: Vec::new(heap),
-            tables: Tables::Both,
+            tables: Tables::BOTH,
         }
     }
 
@@ -41,7 +44,8 @@ impl Draft {
                 Ok(Entered::Listed { label, bits })
             }
             Entry::Fact { set, fact } => {
-                self.facts.insert(4608 * set as u32 + fact as u32)?;
+                self.facts
+                    .insert(u32::from(SETS) * u32::from(set.0) + u32::from(fact.0))?;
                 Ok(Entered::Fact { set, fact })
             }
             Entry::Numbers { first, step, count } => {
@@ -65,11 +69,8 @@ impl Draft {
     }
 
     fn add_numbers(&mut self, first: u32, step: u32, count: u16) -> Result<usize, AllocError> {
-        let mut number = first;
-        for _ in 0..count {
-            self.numbers.push(number)?;
-            number = number.wrapping_add(step);
-        }
+        let numbers = (0..count).map(|i| first.wrapping_add(step.wrapping_mul(u32::from(i))));
+        self.numbers.extend(numbers)?;
         Ok(self.numbers.len())
     }
 
@@ -77,36 +78,23 @@ impl Draft {
         self.tables
     }
 
-    // how many numbers the rows are
-    pub(crate) fn rows_len(&self) -> usize {
-        self.rows.len()
-    }
-
-    // the rows, cut off or filled up with 0
-    pub(crate) fn rows(&self, heap: Global, len: usize) -> Result<Vec<u16>, AllocError> {
-        let mut rows = Vec::new(heap);
-        for i in 0..len {
-            rows.push(self.rows.get(i).copied().unwrap_or(0))?;
-        }
+    // the rows, cut off or filled up with 0 where another length is asked
+    pub(crate) fn rows(&self, len: Option<usize>) -> Result<Vec<u16>, AllocError> {
+        let mut rows = self.rows.clone()?;
+        rows.resize(len.unwrap_or(self.rows.len()), 0)?;
         Ok(rows)
     }
 
     // the masks of labels 0 to 255, cut off or filled up with 0
-    pub(crate) fn masks(&self, heap: Global, len: usize) -> Result<Vec<u16>, AllocError> {
-        let mut masks = Vec::new(heap);
-        for i in 0..len {
-            let mask = match u8::try_from(i) {
-                Ok(label) => self.mask(label),
-                Err(_) => 0,
-            };
-            masks.push(mask)?;
-        }
-        Ok(masks)
+    pub(crate) fn masks(&self, len: usize) -> Result<Vec<u16>, AllocError> {
+        (0..len)
+            .map(|i| u8::try_from(i).map_or(0, |label| self.mask(label)))
+            .collect(self.heap)
     }
 
     // the word table's words: 72 for each set, cut off or filled up with 0
-    pub(crate) fn words(&self, heap: Global, len: usize) -> Result<Vec<u64>, AllocError> {
-        let mut words = vec![in heap; 0u64; len]?;
+    pub(crate) fn words(&self, len: usize) -> Result<Vec<u64>, AllocError> {
+        let mut words = vec![in self.heap; 0u64; len]?;
         for fact in self.facts.iter() {
             if let Some(word) = words.get_mut((*fact / 64) as usize) {
                 *word |= 1u64 << (*fact % 64);
@@ -116,12 +104,11 @@ impl Draft {
     }
 
     // the list table's numbers: the facts, rising, and then the other numbers
-    pub(crate) fn list(&self, heap: Global) -> Result<Vec<u32>, AllocError> {
-        let mut list = Vec::new(heap);
-        for fact in self.facts.iter() {
-            list.push(*fact)?;
-        }
-        list.extend_from_slice(self.numbers.as_slice())?;
-        Ok(list)
+    pub(crate) fn list(&self) -> Result<Vec<u32>, AllocError> {
+        self.facts
+            .iter()
+            .chain(self.numbers.iter())
+            .copied()
+            .collect(self.heap)
     }
 }

@@ -1,5 +1,5 @@
 use crate::entries::Tables;
-use crate::notation::{show_fact, show_set};
+use crate::notation::{FactNumber, SetNumber};
 use std::fmt;
 
 // What came of an entry.
@@ -8,7 +8,7 @@ pub(crate) enum Entered {
     Row { number: usize, row: [u16; 32] },
     Mask { label: u8, bits: u16 },
     Listed { label: u8, bits: u16 },
-    Fact { set: u16, fact: u16 },
+    Fact { set: SetNumber, fact: FactNumber },
     // how many numbers there are now beside the facts
     Numbers { total: usize },
     Table(Tables),
@@ -17,10 +17,10 @@ pub(crate) enum Entered {
 impl fmt::Display for Entered {
     fn fmt<W: fmt::Write>(&self, f: &mut fmt::Formatter<W>) -> fmt::Result {
         match self {
-            Entered::Row { number, row } => show_row(*number, row, f),
+            Entered::Row { number, row } => write!(f, "row {number}{}", Row(row)),
             Entered::Mask { label, bits } => write!(f, "mask {label} {bits}"),
-            Entered::Listed { label, bits } => show_listed(*label, *bits, f),
-            Entered::Fact { set, fact } => show_set_and_fact(*set, *fact, f),
+            Entered::Listed { label, bits } => write!(f, "listed {label}{}", Contexts(*bits)),
+            Entered::Fact { set, fact } => write!(f, "fact set {set} fact {fact}"),
             Entered::Numbers { total } => write!(f, "numbers {total}"),
             Entered::Table(tables) => write!(f, "table {tables}"),
         }
@@ -28,29 +28,30 @@ impl fmt::Display for Entered {
 }
 
 // the entries that are not 0
-fn show_row<W: fmt::Write>(number: usize, row: &[u16], f: &mut fmt::Formatter<W>) -> fmt::Result {
-    write!(f, "row {number}")?;
-    for (variable, birthplace) in row.iter().enumerate() {
-        if *birthplace != 0 {
-            write!(f, " {variable}={birthplace}")?;
+#[derive(Clone, Copy)]
+struct Row<'a>(&'a [u16]);
+
+impl fmt::Display for Row<'_> {
+    fn fmt<W: fmt::Write>(&self, f: &mut fmt::Formatter<W>) -> fmt::Result {
+        for (variable, birthplace) in self.0.iter().enumerate() {
+            if *birthplace != 0 {
+                write!(f, " {variable}={birthplace}")?;
+            }
         }
+        Ok(())
     }
-    Ok(())
 }
 
-fn show_listed<W: fmt::Write>(label: u8, bits: u16, f: &mut fmt::Formatter<W>) -> fmt::Result {
-    write!(f, "listed {label}")?;
-    for context in 0..16u8 {
-        if (bits >> context) & 1 == 1 {
+// the contexts whose bits are set
+#[derive(Clone, Copy)]
+struct Contexts(u16);
+
+impl fmt::Display for Contexts {
+    fn fmt<W: fmt::Write>(&self, f: &mut fmt::Formatter<W>) -> fmt::Result {
+        let Contexts(bits) = *self;
+        for context in (0..16u8).filter(|context| (bits >> *context) & 1 == 1) {
             write!(f, " {context}")?;
         }
+        Ok(())
     }
-    Ok(())
-}
-
-fn show_set_and_fact<W: fmt::Write>(set: u16, fact: u16, f: &mut fmt::Formatter<W>) -> fmt::Result {
-    f.write_str("fact set ")?;
-    show_set(set, f)?;
-    f.write_str(" fact ")?;
-    show_fact(fact, f)
 }

@@ -1,4 +1,4 @@
-ghost use Rattle.std.specs.Prelude.{◌^◌, ◌<◌, length};
+ghost use Rattle.std.specs.Prelude.{◌^◌, ◌<◌, ◌≤◌, length, IfSome};
 ghost use Rattle.std.specs.Option.{SomeIff};
 ghost use Rattle.std.specs.Str.Parse.{AllDigits, digits_value};
 
@@ -10,4 +10,14 @@ pub(crate) fn numeral(word: &str) -> Option<u32>
         [b'+', ..] => None,
         _ => word.parse::<u32>().ok(),
     }
+}
+
+// The number that a word writes, as an N, if it is at most this.
+pub(crate) fn numeral_up_to<N: TryFrom<u32>>(word: &str, most: u32) -> Option<N>
+where
+    N::Error: Drop,
+    ensures { IfSome result (λ x. AllDigits 10 word.now × (digits_value 10 word.now ≤ most) × N.try_from_gives (digits_value 10 word.now) (Ok x)) }
+{
+    let number = numeral(word).filter(|n| *n <= most)?;
+    N::try_from(number).ok()
 }

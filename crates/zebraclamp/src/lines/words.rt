@@ -1,7 +1,8 @@
-ghost use Rattle.std.specs.Prelude.{◌<◌, ◌≤◌, IfOk};
+ghost use Rattle.std.specs.Prelude.{ℕ, ◌<◌, ◌≤◌, List, IfOk};
 
 use crate::lines::mistake::Mistake;
 use crate::lines::numerals::numeral;
+use std::iter::Peekable;
 use std::str::SplitWhitespace;
 
 const NUMBER: &str = "a number from 0 to 4294967295";
@@ -14,12 +15,11 @@ pub(crate) struct Expected {
     pub(crate) what: &'static str,
 }
 
-// The words of one line up to a '#', taken from left to right: the one taken last, the next, and those behind it.
+// The words of one line up to a '#', taken from left to right: the one taken last, and those that are left.
 #[derive(Drop)]
 pub(crate) struct Words<'a> {
-    before: &'a str,
-    ahead: Option<&'a str>,
-    behind: SplitWhitespace<'a>,
+    before: Option<&'a str>,
+    rest: Peekable<SplitWhitespace<'a>>,
 }
 
 impl<'a> Words<'a> {
@@ -28,49 +28,58 @@ impl<'a> Words<'a> {
             Some((front, _)) => front,
             None => line,
         };
-        let mut behind = said.split_whitespace();
-        let ahead = behind.next();
         Words {
-            before: "",
-            ahead,
-            behind,
+            before: None,
+            rest: said.split_whitespace().peekable(),
         }
     }
 
     // what is wrong with the line where it should go on otherwise
-    pub(crate) fn mistake(&self, expected: Expected) -> Mistake<'a> {
+    pub(crate) fn mistake(&mut self, expected: Expected) -> Mistake<'a> {
         Mistake::Expected {
             what: expected.what,
             after: self.before,
-            found: self.ahead,
+            found: self.ahead(),
         }
     }
 
-    pub(crate) fn ahead(&self) -> Option<&'a str> {
-        self.ahead
+    pub(crate) fn ahead(&mut self) -> Option<&'a str> {
+        self.rest.peek().copied()
     }
 
     pub(crate) fn take(&mut self) -> Option<&'a str> {
-        let word = self.ahead?;
-        self.before = word;
-        self.ahead = self.behind.next();
+        let word = self.rest.next()?;
+        self.before = Some(word);
         Some(word)
     }
 
     // takes the next word if it is this one
     pub(crate) fn accept(&mut self, word: &str) -> bool {
-        let same = self.ahead == Some(word);
+        let same = self.ahead() == Some(word);
         if same {
             let _ = self.take();
         }
         same
     }
 
+    // takes the next word as what `read` makes of it; a word of which it makes nothing stays
+    pub(crate) fn read<T, F: FnOnce(&str) -> Option<T>>(
+        &mut self,
+        what: &'static str,
+        read: F,
+    ) -> Result<T, Expected>
+        requires { F.IsAlwaysCallable read }
+        ensures { IfOk result (λ x. (word : _) × F.post read word (Some x)) }
+    {
+        let Some(x) = self.ahead().and_then(read) else {
+            return Err(Expected { what });
+        };
+        let _ = self.take();
+        Ok(x)
+    }
+
     pub(crate) fn word(&mut self, what: &'static str) -> Result<&'a str, Expected> {
-        match self.take() {
-            Some(word) => Ok(word),
-            None => Err(Expected { what }),
-        }
+        self.take().ok_or(Expected { what })
     }
 
     pub(crate) fn number(&mut self) -> Result<u32, Expected> {
@@ -79,58 +88,53 @@ impl<'a> Words<'a> {
 
     // a label, a variable or the like
     pub(crate) fn byte(&mut self) -> Result<u8, Expected> {
-        let n = self.number_up_to(255, "a number from 0 to 255")?;
-        Ok(n as u8)
+        self.number_up_to(255, "a number from 0 to 255")
     }
 
     pub(crate) fn context(&mut self) -> Result<u8, Expected>
         ensures { IfOk result (λ n. n < 16) }
     {
-        let n = self.number_up_to(15, "a context from 0 to 15")?;
-        Ok(n as u8)
+        self.number_up_to(15, "a context from 0 to 15")
     }
 
     // how long a piece of memory shall be, or a mask
     pub(crate) fn size(&mut self) -> Result<u16, Expected> {
-        let n = self.number_up_to(65535, SIZE)?;
-        Ok(n as u16)
+        self.number_up_to(65535, SIZE)
     }
 
-    // up to so many numbers, those left out at the line's end being 0
-    pub(crate) fn numbers_or_zero(&mut self, most: u8) -> Result<[u32; 3], Expected> {
-        let mut numbers = [0; 3];
-        for i in 0..most.min(3) {
-            if self.ahead.is_some() {
-                numbers[i as usize] = self.number()?;
+    // numbers up to the line's end, those left out being 0
+    pub(crate) fn numbers_or_zero<const N: usize>(&mut self) -> Result<[u32; N], Expected> {
+        let mut numbers = [0; N];
+        for number in &mut numbers {
+            if self.ahead().is_some() {
+                *number = self.number()?;
             }
         }
         Ok(numbers)
     }
 
     // what is called `what`, a number that is at most this
-    pub(crate) fn number_up_to(&mut self, most: u32, what: &'static str) -> Result<u32, Expected>
-        ensures { IfOk result (λ n. n ≤ most) }
+    pub(crate) fn number_up_to<N: TryFrom<u32>>(
+        &mut self,
+        most: u32,
+        what: &'static str,
+    ) -> Result<N, Expected>
+    where
+        N::Error: Drop,
+        ensures { IfOk result (λ x. (n : ℕ) × (n ≤ most) × N.try_from_gives n (Ok x)) }
     {
-        match self.numeral_ahead() {
-            Some(n) if n <= most => {
-                let _ = self.take();
-                Ok(n)
-            }
-            _ => Err(Expected { what }),
-        }
+        // not `numeral_up_to`: the proof covers no call of a generic function of ours in the closure
+        self.read(what, move |word| {
+            N::try_from(numeral(word).filter(|n| *n <= most)?).ok()
+        })
     }
 
-    pub(crate) fn numeral_ahead(&self) -> Option<u32> {
-        numeral(self.ahead?)
-    }
-
-    pub(crate) fn end(&self) -> Result<(), Expected> {
-        if self.ahead.is_none() {
-            Ok(())
-        } else {
-            Err(Expected {
+    pub(crate) fn end(&mut self) -> Result<(), Expected> {
+        match self.ahead() {
+            None => Ok(()),
+            Some(_) => Err(Expected {
                 what: "the end of the line",
-            })
+            }),
         }
     }
 }

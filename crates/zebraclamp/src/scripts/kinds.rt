@@ -1,6 +1,6 @@
-ghost use Rattle.std.specs.Prelude.{◌≤◌, is_some, Decides};
+ghost use Rattle.std.specs.Prelude.{◌≤◌, is_some, Decides, length};
 
-use crate::lines::numeral;
+use crate::lines::{Expected, Words, numeral};
 use std::fmt;
 use terms::RawDefinition;
 
@@ -21,18 +21,24 @@ pub(crate) struct Kind {
 }
 
 impl Kind {
-    pub(crate) fn of_term(number: u32) -> Kind {
-        Kind {
-            name: term_name(number),
-            number,
-        }
+    pub(crate) fn of_term(number: u32) -> Kind
+        ensures { Decides (is_some result.name) ((1 ≤ number) × (number ≤ 13)) }
+    {
+        Kind::of(&TERMS, number)
     }
 
-    pub(crate) fn of_definition(number: u32) -> Kind {
-        Kind {
-            name: definition_name(number),
-            number,
-        }
+    pub(crate) fn of_definition(number: u32) -> Kind
+        ensures { Decides (is_some result.name) ((1 ≤ number) × (number ≤ 3)) }
+    {
+        Kind::of(&DEFINITIONS, number)
+    }
+
+    fn of(names: &[&'static str], number: u32) -> Kind
+        ensures { Decides (is_some result.name) ((1 ≤ number) × (number ≤ length names.now)) }
+    {
+        let before = number.checked_sub(1);
+        let name = before.and_then(|before| names.get(before as usize).copied());
+        Kind { name, number }
     }
 }
 
@@ -45,28 +51,12 @@ impl fmt::Display for Kind {
     }
 }
 
-fn term_name(kind: u32) -> Option<&'static str>
-    ensures { Decides (is_some result) ((1 ≤ kind) × (kind ≤ 13)) }
-{
-    let before = kind.checked_sub(1)?;
-    TERMS.get(before as usize).copied()
-}
-
-fn definition_name(kind: u32) -> Option<&'static str>
-    ensures { Decides (is_some result) ((1 ≤ kind) × (kind ≤ 3)) }
-{
-    let before = kind.checked_sub(1)?;
-    DEFINITIONS.get(before as usize).copied()
-}
-
 // The kind of term that a word names; any number names itself.
 pub(crate) fn term_kind(word: &str) -> Option<u32> {
-    for kind in 1..=13 {
-        if term_name(kind) == Some(word) {
-            return Some(kind);
-        }
+    match TERMS.iter().position(|name| *name == word) {
+        Some(before) => Some(before as u32 + 1),
+        None => numeral(word),
     }
-    numeral(word)
 }
 
 // What follows a definition's kind.
@@ -81,47 +71,30 @@ pub(crate) enum Form {
 }
 
 impl Form {
-    // how many numbers can follow
-    pub(crate) fn numbers(self) -> u8 {
-        match self {
-            Form::Input => 1,
-            Form::Defvar => 2,
-            Form::Whole { .. } => 3,
-        }
-    }
-
-    pub(crate) fn definition(self, [x, second, third]: [u32; 3]) -> RawDefinition {
-        match self {
-            Form::Input => RawDefinition {
-                kind: 1,
-                x,
-                y: 0,
-                root: 0,
-            },
-            Form::Defvar => RawDefinition {
-                kind: 2,
-                x,
-                y: 0,
-                root: second,
-            },
-            Form::Whole { kind } => RawDefinition {
-                kind,
-                x,
-                y: second,
-                root: third,
-            },
-        }
+    pub(crate) fn read_rest(self, words: &mut Words<'_>) -> Result<RawDefinition, Expected> {
+        let (kind, [x, y, root]) = match self {
+            Form::Input => {
+                let [x] = words.numbers_or_zero::<1>()?;
+                (1, [x, 0, 0])
+            }
+            Form::Defvar => {
+                let [x, root] = words.numbers_or_zero::<2>()?;
+                (2, [x, 0, root])
+            }
+            Form::Whole { kind } => (kind, words.numbers_or_zero()?),
+        };
+        Ok(RawDefinition { kind, x, y, root })
     }
 }
 
 // by the kind's name; any number is followed by all three
 pub(crate) fn definition_form(word: &str) -> Option<Form> {
-    if word == "input" {
-        return Some(Form::Input);
+    match word {
+        "input" => Some(Form::Input),
+        "defvar" => Some(Form::Defvar),
+        "defun" => Some(Form::Whole { kind: 3 }),
+        _ => Some(Form::Whole {
+            kind: numeral(word)?,
+        }),
     }
-    if word == "defvar" {
-        return Some(Form::Defvar);
-    }
-    let kind = if word == "defun" { 3 } else { numeral(word)? };
-    Some(Form::Whole { kind })
 }

@@ -23,26 +23,18 @@ impl fmt::Display for Said {
     fn fmt<W: fmt::Write>(&self, f: &mut fmt::Formatter<W>) -> fmt::Result {
         match *self {
             Said::Symbols(count) => write!(f, "symbols {count}"),
-            Said::Term { label, term } => show_term(label, term, f),
-            Said::Definition { number, definition } => show_definition(number, definition, f),
+            Said::Term { label, term } => {
+                let kind = Kind::of_term(term.kind);
+                let RawTerm { a, b, c, .. } = term;
+                write!(f, "term {label} {kind} {a} {b} {c}")
+            }
+            Said::Definition { number, definition } => {
+                let kind = Kind::of_definition(definition.kind);
+                let RawDefinition { x, y, root, .. } = definition;
+                write!(f, "definition {number} {kind} {x} {y} {root}")
+            }
             Said::Program(Ok(sizes)) => write!(f, "program made {sizes}"),
             Said::Program(Err(fault)) => write!(f, "program refused {fault}"),
         }
     }
-}
-
-fn show_term<W: fmt::Write>(label: usize, term: RawTerm, f: &mut fmt::Formatter<W>) -> fmt::Result {
-    let kind = Kind::of_term(term.kind);
-    let RawTerm { a, b, c, .. } = term;
-    write!(f, "term {label} {kind} {a} {b} {c}")
-}
-
-fn show_definition<W: fmt::Write>(
-    number: usize,
-    definition: RawDefinition,
-    f: &mut fmt::Formatter<W>,
-) -> fmt::Result {
-    let kind = Kind::of_definition(definition.kind);
-    let RawDefinition { x, y, root, .. } = definition;
-    write!(f, "definition {number} {kind} {x} {y} {root}")
 }

@@ -11,51 +11,22 @@ pub(crate) enum Saying {
     Program,
 }
 
+// Each of these reads what stands behind a command's name.
 impl Saying {
-    // what stands behind this command's name; none if it is the name of another
-    pub(crate) fn read(name: &str, words: &mut Words<'_>) -> Option<Result<Saying, Expected>> {
-        match name {
-            "symbols" => Some(read_symbols(words)),
-            "term" => Some(read_term(words)),
-            "definition" => Some(read_definition(words)),
-            "program" => Some(Ok(Saying::Program)),
-            _ => None,
-        }
+    pub(crate) fn read_symbols(words: &mut Words<'_>) -> Result<Saying, Expected> {
+        Ok(Saying::Symbols(words.number()?))
     }
-}
 
-fn read_symbols(words: &mut Words<'_>) -> Result<Saying, Expected> {
-    Ok(Saying::Symbols(words.number()?))
-}
+    // KIND A B C
+    pub(crate) fn read_term(words: &mut Words<'_>) -> Result<Saying, Expected> {
+        let kind = words.read("a kind of term", term_kind)?;
+        let [a, b, c] = words.numbers_or_zero::<3>()?;
+        Ok(Saying::Term(RawTerm { kind, a, b, c }))
+    }
 
-// KIND A B C
-fn read_term(words: &mut Words<'_>) -> Result<Saying, Expected> {
-    let Some(kind) = kind_ahead(words) else {
-        return Err(Expected {
-            what: "a kind of term",
-        });
-    };
-    let _ = words.take();
-    let [a, b, c] = words.numbers_or_zero(3)?;
-    Ok(Saying::Term(RawTerm { kind, a, b, c }))
-}
-
-fn kind_ahead(words: &Words<'_>) -> Option<u32> {
-    term_kind(words.ahead()?)
-}
-
-// input X, defvar X ROOT, defun X Y ROOT, or KIND X Y ROOT in numbers
-fn read_definition(words: &mut Words<'_>) -> Result<Saying, Expected> {
-    let Some(form) = form_ahead(words) else {
-        return Err(Expected {
-            what: "a kind of definition",
-        });
-    };
-    let _ = words.take();
-    let numbers = words.numbers_or_zero(form.numbers())?;
-    Ok(Saying::Definition(form.definition(numbers)))
-}
-
-fn form_ahead(words: &Words<'_>) -> Option<Form> {
-    definition_form(words.ahead()?)
+    // input X, defvar X ROOT, defun X Y ROOT, or KIND X Y ROOT in numbers
+    pub(crate) fn read_definition(words: &mut Words<'_>) -> Result<Saying, Expected> {
+        let form = words.read("a kind of definition", definition_form)?;
+        Ok(Saying::Definition(form.read_rest(words)?))
+    }
 }

@@ -4,7 +4,8 @@ ghost use Rattle.std.specs.Result.{result_ok};
 ghost use Rattle.terms.specs.Form.{program_of};
 ghost use Rattle.terms.specs.Model.{model};
 
-use crate::findings::{Findings, Inquiry, find};
+use crate::findings::Findings;
+use crate::inquiries::{Inquiry, Listing, StoreKind, find};
 use crate::scripts::said::Said;
 use crate::scripts::saying::Saying;
 use faults::Fault;
@@ -102,7 +103,11 @@ impl Script {
     }
 
     // none where no program is made
-    pub(crate) fn owners(&self, heap: Global, how: Inquiry) -> Result<Option<Findings>, AllocError>
+    pub(crate) fn owners(
+        &self,
+        heap: Global,
+        how: Inquiry,
+    ) -> Result<Option<Findings<StoreKind, Listing>>, AllocError>
         ensures { IfOk result (λ found. is_some found ≡ is_some self.now.program) }
     {
         match &self.program {

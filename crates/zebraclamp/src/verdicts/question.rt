@@ -1,4 +1,5 @@
 use crate::lines::{Expected, Words};
+use facts::SETS;
 use std::fmt;
 
 // What is asked of the proposal that the draft makes.
@@ -25,17 +26,28 @@ pub(crate) struct Lengths {
 const WHOLE: Lengths = Lengths {
     rows: None,
     masks: 256,
-    words: 331776,
+    words: 72 * SETS as usize,
 };
 
 impl Question {
-    // what stands behind this command's name; none if it is the name of another
-    pub(crate) fn read(name: &str, words: &mut Words<'_>) -> Option<Result<Question, Expected>> {
-        match name {
-            "proposal" => Some(read_lengths(words)),
-            "extension" => Some(read_extension(words)),
-            _ => None,
-        }
+    // [rows N] [masks N] [words N]
+    pub(crate) fn read_due_form(words: &mut Words<'_>) -> Result<Question, Expected> {
+        let rows = read_length("rows", words)?;
+        let masks = read_length("masks", words)?.unwrap_or(WHOLE.masks);
+        let words = read_length("words", words)?.unwrap_or(WHOLE.words);
+        Ok(Question::DueForm(Lengths { rows, masks, words }))
+    }
+
+    // CONTEXT VARIABLE BIRTHPLACE
+    pub(crate) fn read_extension(words: &mut Words<'_>) -> Result<Question, Expected> {
+        let context = words.byte()?;
+        let variable = words.byte()?;
+        let birthplace = words.byte()?;
+        Ok(Question::Extension {
+            context,
+            variable,
+            birthplace,
+        })
     }
 
     pub(crate) fn lengths(&self) -> Lengths {
@@ -46,32 +58,12 @@ impl Question {
     }
 }
 
-// [rows N] [masks N] [words N]
-fn read_lengths(words: &mut Words<'_>) -> Result<Question, Expected> {
-    let rows = read_length("rows", words)?;
-    let masks = read_length("masks", words)?.unwrap_or(WHOLE.masks);
-    let words = read_length("words", words)?.unwrap_or(WHOLE.words);
-    Ok(Question::DueForm(Lengths { rows, masks, words }))
-}
-
 fn read_length(name: &str, words: &mut Words<'_>) -> Result<Option<usize>, Expected> {
     if !words.accept(name) {
         return Ok(None);
     }
     let length = words.number_up_to(1000000, "a number from 0 to 1000000")?;
-    Ok(Some(length as usize))
-}
-
-// CONTEXT VARIABLE BIRTHPLACE
-fn read_extension(words: &mut Words<'_>) -> Result<Question, Expected> {
-    let context = words.byte()?;
-    let variable = words.byte()?;
-    let birthplace = words.byte()?;
-    Ok(Question::Extension {
-        context,
-        variable,
-        birthplace,
-    })
+    Ok(Some(length))
 }
 
 // how the line that answers begins

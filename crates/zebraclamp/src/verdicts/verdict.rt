@@ -1,85 +1,76 @@
 use crate::drafts::Draft;
-use crate::entries::Tables;
-use crate::verdicts::finding::{Finding, Inquest};
+use crate::entries::TableKind;
+use crate::findings::{Finding, Findings};
 use crate::verdicts::question::Question;
-use facts::{ListTable, WordTable};
-use std::alloc::{AllocError, Global};
+use crate::verdicts::ruling::Ruling;
+use facts::{Facts, ListTable, WordTable};
+use faults::Fault;
+use proposals::Proposal;
+use std::alloc::AllocError;
 use std::fmt;
 use terms::Program;
 
 // What was found over one fact table or over both.
-#[derive(Clone, Copy)]
+#[derive(Drop)]
 pub(crate) struct Verdict {
     question: Question,
-    found: Found,
+    findings: Findings<TableKind, Ruling>,
 }
 
+// A question, the program, and the draft with its rows and masks as they are handed over.
 #[derive(Clone, Copy)]
-enum Found {
-    Agreed(Finding),
-    Differ { word: Finding, list: Finding },
+struct Inquest<'a> {
+    question: Question,
+    program: &'a Program,
+    draft: &'a Draft,
+    rows: &'a [u16],
+    masks: &'a [u16],
 }
 
 pub(crate) fn judge(
-    heap: Global,
     program: &Program,
     draft: &Draft,
     question: Question,
 ) -> Result<Verdict, AllocError> {
     let lengths = question.lengths();
-    let rows = draft.rows(heap, lengths.rows.unwrap_or(draft.rows_len()))?;
-    let masks = draft.masks(heap, lengths.masks)?;
+    let rows = draft.rows(lengths.rows)?;
+    let masks = draft.masks(lengths.masks)?;
     let inquest = Inquest {
         question,
         program,
+        draft,
         rows: rows.as_slice(),
         masks: masks.as_slice(),
     };
-    let found = find(heap, draft, inquest)?;
-    Ok(Verdict { question, found })
+    let findings = draft.tables().0.find(|kind| inquest.over(kind))?;
+    Ok(Verdict { question, findings })
 }
 
-fn find(heap: Global, draft: &Draft, inquest: Inquest<'_>) -> Result<Found, AllocError> {
-    match draft.tables() {
-        Tables::Word => Ok(Found::Agreed(over_words(heap, draft, inquest)?)),
-        Tables::List => Ok(Found::Agreed(over_list(heap, draft, inquest)?)),
-        Tables::Both => {
-            let word = over_words(heap, draft, inquest)?;
-            let list = over_list(heap, draft, inquest)?;
-            if word == list {
-                Ok(Found::Agreed(word))
-            } else {
-                Ok(Found::Differ { word, list })
+impl Inquest<'_> {
+    fn over(&self, kind: TableKind) -> Result<Finding<Ruling>, AllocError> {
+        match kind {
+            TableKind::Word => {
+                let words = self.draft.words(self.question.lengths().words)?;
+                Ok(Finding(self.rule(WordTable::over(words.as_slice()))))
+            }
+            TableKind::List => {
+                let list = self.draft.list()?;
+                let (table, outcome) = ListTable::over(list.as_slice());
+                Ok(Finding(self.rule(outcome.map(|()| table))))
             }
         }
     }
-}
 
-fn over_words(heap: Global, draft: &Draft, inquest: Inquest<'_>) -> Result<Finding, AllocError> {
-    let words = draft.words(heap, inquest.question.lengths().words)?;
-    match WordTable::over(words.as_slice()) {
-        Ok(table) => Ok(inquest.over(&table)),
-        Err(fault) => Ok(Finding::Refused(fault)),
-    }
-}
-
-fn over_list(heap: Global, draft: &Draft, inquest: Inquest<'_>) -> Result<Finding, AllocError> {
-    let list = draft.list(heap)?;
-    let (table, outcome) = ListTable::over(list.as_slice());
-    match outcome {
-        Ok(()) => Ok(inquest.over(&table)),
-        Err(fault) => Ok(Finding::Refused(fault)),
+    fn rule<F: Facts + Drop>(&self, table: Result<F, Fault>) -> Result<Ruling, Fault> {
+        let facts = table?;
+        let proposal = Proposal::over(self.program, &facts, self.rows, self.masks)?;
+        Ok(Ruling::on(self.question, &proposal, &facts))
     }
 }
 
 impl fmt::Display for Verdict {
     fn fmt<W: fmt::Write>(&self, f: &mut fmt::Formatter<W>) -> fmt::Result {
-        let question = self.question;
-        match self.found {
-            Found::Agreed(finding) => write!(f, "{question} {finding}"),
-            Found::Differ { word, list } => {
-                write!(f, "{question} differ: word {word}; list {list}")
-            }
-        }
+        let Verdict { question, findings } = self;
+        write!(f, "{question} {findings}")
     }
 }
