@@ -4,3 +4,7 @@ mod set_number;
 
 pub(crate) use crate::notation::fact_number::FactNumber;
 pub(crate) use crate::notation::set_number::SetNumber;
+use facts::SETS;
+
+// the last number of a set, and of a fact
+const LAST: u32 = SETS as u32 - 1;

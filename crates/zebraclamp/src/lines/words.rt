@@ -62,7 +62,8 @@ impl<'a> Words<'a> {
         same
     }
 
-    // takes the next word as what `read` makes of it; a word of which it makes nothing stays
+    // Takes the next word as what `read` makes of it; a word of which it makes nothing stays.
+    // A closure and no `FromStr`: what should stand there is told by the place, and not by the type.
     pub(crate) fn read<T, F: FnOnce(&str) -> Option<T>>(
         &mut self,
         what: &'static str,
@@ -123,7 +124,7 @@ impl<'a> Words<'a> {
         N::Error: Drop,
         ensures { IfOk result (λ x. (n : ℕ) × (n ≤ most) × N.try_from_gives n (Ok x)) }
     {
-        // not `numeral_up_to`: the proof covers no call of a generic function of ours in the closure
+        // not by `numeral_up_to`: with a generic function called in the closure the proof does not close
         self.read(what, move |word| {
             N::try_from(numeral(word).filter(|n| *n <= most)?).ok()
         })

@@ -1,5 +1,6 @@
 use crate::lines::{Expected, Words};
-use facts::Fact;
+use crate::notation::LAST;
+use facts::{Fact, Unassigned};
 use std::fmt;
 
 // The number of a fact, printed with the fact's name if it has one.
@@ -10,9 +11,9 @@ impl FactNumber {
     // a number below 4608 or a name, which is one word or more
     pub(crate) fn read(words: &mut Words<'_>) -> Result<FactNumber, Expected> {
         let number = match named_fact(words)? {
-            Some(fact) => fact.number(),
+            Some(fact) => u16::from(fact),
             None => words.number_up_to(
-                4607,
+                LAST,
                 "a fact, number, symbol S, function G, pair C K or a number below 4608",
             )?,
         };
@@ -41,12 +42,12 @@ fn named_fact(words: &mut Words<'_>) -> Result<Option<Fact>, Expected> {
 impl fmt::Display for FactNumber {
     fn fmt<W: fmt::Write>(&self, f: &mut fmt::Formatter<W>) -> fmt::Result {
         let FactNumber(fact) = *self;
-        match Fact::of(fact) {
-            Some(Fact::Symbol(symbol)) => write!(f, "{fact} symbol {symbol}"),
-            Some(Fact::Number) => write!(f, "{fact} number"),
-            Some(Fact::Function(body)) => write!(f, "{fact} function {body}"),
-            Some(Fact::Pair { cons, context }) => write!(f, "{fact} pair {cons} {context}"),
-            None => write!(f, "{fact}"),
+        match Fact::try_from(fact) {
+            Ok(Fact::Symbol(symbol)) => write!(f, "{fact} symbol {symbol}"),
+            Ok(Fact::Number) => write!(f, "{fact} number"),
+            Ok(Fact::Function(body)) => write!(f, "{fact} function {body}"),
+            Ok(Fact::Pair { cons, context }) => write!(f, "{fact} pair {cons} {context}"),
+            Err(Unassigned) => write!(f, "{fact}"),
         }
     }
 }

@@ -1,5 +1,6 @@
 use crate::lines::{Expected, Words, numeral_up_to};
-use facts::{SETS, Set};
+use crate::notation::LAST;
+use facts::{Set, Unassigned};
 use std::fmt;
 
 // The number of a set, printed with the set's name if it has one.
@@ -18,8 +19,7 @@ impl SetNumber {
 }
 
 fn set_number(word: &str) -> Option<u16> {
-    let last = u32::from(SETS) - 1;
-    numeral_up_to(word, last).or_else(|| Some(named_set(word)?.number()))
+    numeral_up_to(word, LAST).or_else(|| named_set(word).map(u16::from))
 }
 
 fn named_set(word: &str) -> Option<Set> {
@@ -42,11 +42,11 @@ fn flow(of: &str) -> Option<Set> {
 impl fmt::Display for SetNumber {
     fn fmt<W: fmt::Write>(&self, f: &mut fmt::Formatter<W>) -> fmt::Result {
         let SetNumber(set) = *self;
-        match Set::of(set) {
-            Some(Set::Flow { label, context }) => write!(f, "{set} C({label},{context})"),
-            Some(Set::Top(variable)) => write!(f, "{set} T({variable})"),
-            Some(Set::Bound(binder)) => write!(f, "{set} E({binder})"),
-            None => write!(f, "{set}"),
+        match Set::try_from(set) {
+            Ok(Set::Flow { label, context }) => write!(f, "{set} C({label},{context})"),
+            Ok(Set::Top(variable)) => write!(f, "{set} T({variable})"),
+            Ok(Set::Bound(binder)) => write!(f, "{set} E({binder})"),
+            Err(Unassigned) => write!(f, "{set}"),
         }
     }
 }

@@ -13,7 +13,7 @@ const TERMS: [&str; 13] = [
 // the kinds of definitions by their numbers, from 1
 const DEFINITIONS: [&str; 3] = ["input", "defvar", "defun"];
 
-// A kind as it is printed: by its name, or by its number if it has none.
+// A kind as it is printed: by its name, or by its number if it has none. It is no enum: a row that is handed in has any number, right or wrong.
 #[derive(Clone, Copy)]
 pub(crate) struct Kind {
     name: Option<&'static str>,

@@ -63,7 +63,7 @@ impl Script {
         self.symbols = count;
     }
 
-    // adds a term, and gives its label
+    // adds a term, and gives its label; one generic function for this and `definition` would be longer than its two lines
     fn term(&mut self, term: RawTerm) -> Result<usize, AllocError>
         ensures said { IfOk result (λ label. (self.new.terms.items ≡ self.old.terms.items ++ term ∷ []) × (label ≡ vec_len self.new.terms)) }
         ensures kept { (self.new.symbols ≡ self.old.symbols) × (self.new.definitions ≡ self.old.definitions) × (self.new.program ≡ self.old.program) }

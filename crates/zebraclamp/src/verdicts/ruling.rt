@@ -1,7 +1,7 @@
 use crate::verdicts::question::Question;
-use facts::{Facts, SETS};
+use facts::{Facts, Members, SETS};
 use proposals::Proposal;
-use std::{fmt, iter};
+use std::fmt;
 
 // What is answered of a proposal in due form.
 #[derive(Clone, Copy, PartialEq, Eq)]
@@ -50,17 +50,8 @@ fn count_contexts<F: Facts>(proposal: &Proposal<'_, F>, label: u8) -> usize {
 
 fn count_facts<F: Facts>(facts: &F) -> usize {
     (0..SETS)
-        .map(|set| count_set(facts, set))
+        .map(|set| Members::of(facts, set).count())
         .fold(0, usize::saturating_add)
-}
-
-fn count_set<F: Facts>(facts: &F, set: u16) -> usize {
-    iter::successors(
-        facts.next(set, 0),
-        |fact| facts.next(set, fact.saturating_add(1)),
-    )
-    .take(usize::from(SETS))
-    .count()
 }
 
 impl fmt::Display for Ruling {

@@ -55,8 +55,7 @@ impl Inquest<'_> {
             }
             TableKind::List => {
                 let list = self.draft.list()?;
-                let (table, outcome) = ListTable::over(list.as_slice());
-                Ok(Finding(self.rule(outcome.map(|()| table))))
+                Ok(Finding(self.rule(ListTable::over(list.as_slice()))))
             }
         }
     }
