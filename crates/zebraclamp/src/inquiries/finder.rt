@@ -47,6 +47,7 @@ impl Finder<'_> {
         self.over_store(&mut Deep::over(records.as_mut_slice()))
     }
 
+    // beside `over_deep`: one function over both would need a trait for the records and the store made of them, and be longer
     fn over_shallow(&self) -> Result<Finding<Listing>, AllocError> {
         let blank: Saved<u8> = Saved {
             variable: 0,

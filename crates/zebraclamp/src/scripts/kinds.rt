@@ -1,4 +1,4 @@
-ghost use Rattle.std.specs.Prelude.{◌≤◌, is_some, Decides, length};
+ghost use Rattle.std.specs.Prelude.{◌≡◌, ◌≤◌, ◌-◌, is_some, Decides, length, slice_get};
 
 use crate::lines::{Expected, Words, numeral};
 use std::fmt;
@@ -22,19 +22,23 @@ pub(crate) struct Kind {
 
 impl Kind {
     pub(crate) fn of_term(number: u32) -> Kind
-        ensures { Decides (is_some result.name) ((1 ≤ number) × (number ≤ 13)) }
+        ensures known { Decides (is_some result.name) ((1 ≤ number) × (number ≤ 13)) }
+        ensures number { result.number ≡ number }
     {
         Kind::of(&TERMS, number)
     }
 
     pub(crate) fn of_definition(number: u32) -> Kind
-        ensures { Decides (is_some result.name) ((1 ≤ number) × (number ≤ 3)) }
+        ensures known { Decides (is_some result.name) ((1 ≤ number) × (number ≤ 3)) }
+        ensures number { result.number ≡ number }
     {
         Kind::of(&DEFINITIONS, number)
     }
 
     fn of(names: &[&'static str], number: u32) -> Kind
-        ensures { Decides (is_some result.name) ((1 ≤ number) × (number ≤ length names.now)) }
+        ensures known { Decides (is_some result.name) ((1 ≤ number) × (number ≤ length names.now)) }
+        ensures named { 1 ≤ number → result.name ≡ slice_get names.now (number - 1) }
+        ensures number { result.number ≡ number }
     {
         let before = number.checked_sub(1);
         let name = before.and_then(|before| names.get(before as usize).copied());
