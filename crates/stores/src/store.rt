@@ -4,6 +4,7 @@ ghost use Rattle.stores.specs.Meaning.{Meaning, Formed, clear_of, count_of, bind
 use faults::Fault;
 
 // A store of bindings. Each call is one equation over its answer and what the store means after it.
+// A question also tells that the meaning is well formed: a caller that knows its store by name has no bound to take the law from.
 pub trait Store {
     type Thing: Copy;
 
@@ -13,10 +14,12 @@ pub trait Store {
         ensures { meaning self.new ≡ clear_of (meaning self.old) };
 
     fn count(&self) -> usize
-        ensures answer { result ≡ count_of (meaning self.now) };
+        ensures answer { result ≡ count_of (meaning self.now) }
+        ensures formed { Formed (meaning self.now) };
 
     fn limit(&self) -> usize
-        ensures answer { result ≡ (meaning self.now).limit };
+        ensures answer { result ≡ (meaning self.now).limit }
+        ensures formed { Formed (meaning self.now) };
 
     fn bind(&mut self, variable: u8, thing: Self::Thing, birthplace: u8) -> Result<(), Fault>
         ensures { (result, meaning self.new) ≡ bind_of (meaning self.old) variable thing birthplace };
@@ -25,7 +28,8 @@ pub trait Store {
         ensures { (result, meaning self.new) ≡ unbind_of (meaning self.old) };
 
     fn look(&self, variable: u8) -> Result<Option<(Self::Thing, u8)>, Fault>
-        ensures answer { result ≡ look_of (meaning self.now) variable };
+        ensures answer { result ≡ look_of (meaning self.now) variable }
+        ensures formed { Formed (meaning self.now) };
 
     fn put(&mut self, variable: u8, thing: Self::Thing) -> Result<(), Fault>
         ensures { (result, meaning self.new) ≡ put_of (meaning self.old) variable thing };
