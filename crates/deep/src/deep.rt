@@ -1,5 +1,4 @@
 ghost use Rattle.std.specs.Prelude.{◌≡◌, ◌==◌, length, position, find, option_map};
-ghost use Rattle.std.proofs.Common.{arith};
 ghost use Rattle.stores.specs.Meaning.{new_store};
 ghost use Rattle.deep.specs.Records.{held};
 
@@ -43,8 +42,6 @@ impl<'a, T: Copy> Store for Deep<'a, T> {
     type Thing = T;
 
     ghost meaning = { λ s. held s.bindings s.top.things };
-
-    ghost formed = { λ s. record { room = Prim.omega arith; places = s.top.sized } };
 
     fn clear(&mut self) {
         self.top = Cells::filled(None);

@@ -1,4 +1,4 @@
-ghost use Rattle.std.specs.Prelude.{◌≡◌, ◌<◌, Ok, Err, length, MatchResult};
+ghost use Rattle.std.specs.Prelude.{◌≡◌, ◌<◌, [], Ok, Err, length, MatchResult};
 ghost use Rattle.facts.specs.Lists.{in_list, in_order, list_rule, Rises, Place};
 
 use crate::table::{Facts, SETS};
@@ -13,6 +13,15 @@ const LONGEST: usize = 8191;
 pub struct ListTable<'a> {
     numbers: &'a [u32],
     ghost rising: { Rises numbers.now },
+}
+
+// A table with no facts: `over(numbers).unwrap_or_default()` is one where the numbers are refused.
+impl Default for ListTable<'_> {
+    ghost is_default = { λ t. t.numbers.now ≡ [] };
+
+    fn default() -> Self {
+        ListTable { numbers: &[] }
+    }
 }
 
 impl<'a> ListTable<'a> {

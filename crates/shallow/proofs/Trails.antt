@@ -9,7 +9,7 @@ use Rattle.stores.specs.Meaning.{new_store, bound, bind_of, unbind_of, look_of, 
 use Rattle.shallow.specs.Trail.{ahead, unwind, unwound, sound}
 use Rattle.stores.proofs.Stacks.{push_done, push_refused, pop_done, pop_refused}
 use Rattle.stores.proofs.Calls as calls
-use Rattle.shallow.specs.Lengths.{Parts, sound_parts, length_unwind}
+use Rattle.shallow.proofs.Lengths.{Parts, sound_parts, length_unwind}
 use Rattle.shallow.proofs.Unwinds.{vacant_none, newest_unwind, sound_new, unwind_new, unwind_put, sound_put}
 
 -- nothing bound

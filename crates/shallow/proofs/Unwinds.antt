@@ -6,7 +6,7 @@ use Rattle.stores.specs.declared.binding.Binding.{Binding}
 use Rattle.shallow.specs.declared.saved.Saved.{Saved}
 use Rattle.stores.specs.Meaning.{newest, replaced}
 use Rattle.shallow.specs.Trail.{ahead, unwind, vacant, sound}
-use Rattle.shallow.specs.Lengths.{Parts, sound_parts}
+use Rattle.shallow.proofs.Lengths.{Parts, sound_parts}
 use Rattle.stores.proofs.Bindings.{newest_here, newest_past, replaced_here, replaced_past}
 
 -- ---- empty cells

@@ -1,2 +1,1 @@
 pub mod Trail
-pub mod Lengths

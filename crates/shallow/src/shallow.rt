@@ -29,11 +29,7 @@ impl<'a, T: Copy> Shallow<'a, T> {
 impl<'a, T: Copy> Store for Shallow<'a, T> {
     type Thing = T;
 
-    ghost use Rattle.shallow.specs.Lengths.{formed};
-
     ghost meaning = { λ s. unwound s.cells.things s.trail s.top.things };
-
-    ghost formed = { λ s. formed s.cells.things s.trail s.top.things s.sound s.top.sized };
 
     fn clear(&mut self) {
         self.trail.clear();

@@ -7,8 +7,6 @@ impl<T: Store> Store for &mut T {
 
     ghost meaning = { λ s. T.Store.meaning s.now };
 
-    ghost formed = { λ s. T.Store.formed s.now };
-
     fn clear(&mut self) {
         (**self).clear();
     }

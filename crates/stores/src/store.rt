@@ -4,7 +4,8 @@ ghost use Rattle.stores.specs.Meaning.{Meaning, Formed, clear_of, count_of, bind
 use faults::Fault;
 
 // A store of bindings. Each call is one equation over its answer and what the store means after it.
-// A question also tells that the meaning is well formed: a caller that knows its store by name has no bound to take the law from.
+// A question also tells that the meaning is well formed, and the calls that change it keep it so (`StaysFormed` of specs/Laws).
+// In clauses and in no law of the trait: a caller that knows its store by name could not use the law.
 pub trait Store {
     type Thing: Copy;
 
@@ -33,7 +34,4 @@ pub trait Store {
 
     fn put(&mut self, variable: u8, thing: Self::Thing) -> Result<(), Fault>
         ensures { (result, meaning self.new) ≡ put_of (meaning self.old) variable thing };
-
-    // What a store means is well formed, before and after each call.
-    ghost formed: { (store : Self) → Formed (meaning store) };
 }

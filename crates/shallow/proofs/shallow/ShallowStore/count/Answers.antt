@@ -1,4 +1,4 @@
-use Rattle.shallow.specs.Lengths.{formed}
+use Rattle.shallow.proofs.Lengths.{formed}
 use Rattle.shallow.proofs.Trails.{counted}
 use Rattle.shallow.proofs.shallow.ShallowStore.count.Goals as goal
 

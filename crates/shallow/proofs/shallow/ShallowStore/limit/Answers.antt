@@ -1,4 +1,4 @@
-use Rattle.shallow.specs.Lengths.{formed}
+use Rattle.shallow.proofs.Lengths.{formed}
 use Rattle.shallow.proofs.shallow.ShallowStore.limit.Goals as goal
 
 pub returns-clause-formed : goal.returns-clause-formed

@@ -1,6 +1,6 @@
 use Rattle.std.proofs.Common.{Ok, ap, ◌∙◌}
 use Rattle.stores.proofs.Calls.{known}
-use Rattle.shallow.specs.Lengths.{formed}
+use Rattle.shallow.proofs.Lengths.{formed}
 use Rattle.shallow.proofs.Trails.{look_cell, look_top}
 use Rattle.shallow.proofs.shallow.ShallowStore.look.Goals as goal
 
