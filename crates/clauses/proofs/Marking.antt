@@ -6,6 +6,7 @@ use Rattle.std.proofs.lemmas.Bool.{false_from_ne_true, and_parts, and_from, case
 use Rattle.std.specs.List.{range_with_len}
 use Rattle.terms.specs.Script.{Script, last, term_at, term, binds, binds_variable, occurs}
 use Rattle.terms.specs.WellFormed.{WellFormed}
+use Rattle.terms.proofs.Bound.{is_bound, bound_is}
 use Rattle.terms.proofs.Nesting.{binder_label}
 use Rattle.owners.specs.Owners.{owner, captured}
 use Rattle.owners.proofs.Laws.{owned}
@@ -14,13 +15,6 @@ use Rattle.proposals.specs.Laws.{DueForm}
 use Rattle.proposals.proofs.Counts.{every_from, every_at}
 use Rattle.clauses.specs.Marks.{Marked, keeps_own, sees, seen_by_own, marked_as, marked, mark_byte, marks_of, MarksExact, MarksTold, MarksBytes}
 use Rattle.clauses.proofs.Counts.{implies_out, implies_in}
-
-is_bound : (o : Option ℕ) (x : ℕ) → binds_variable o x ≡ true → o ≡ Some x
-is_bound None x h = absurd (both_ways false refl h)
-is_bound (Some y) x h = ap Some (eqb-true y x h)
-
-bound_is : (o : Option ℕ) (x : ℕ) → o ≡ Some x → binds_variable o x ≡ true
-bound_is o x e = ap (λ u. binds_variable u x) e ∙ eq-eqb x x refl
 
 module _ (p : Script) (W : WellFormed p) where
   -- ---- past the last label nothing is an occurrence, and nothing is captured

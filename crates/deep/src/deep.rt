@@ -72,7 +72,7 @@ impl<'a, T: Copy> Store for Deep<'a, T> {
 
     fn look(&self, variable: u8) -> Result<Option<(T, u8)>, Fault> {
         check_variable(variable)?;
-        // no `or_else`: in generic code its closure needs a clause of its own
+        // `or_else` was tried: in generic code nothing is known of its closure's answer, but by a clause that says it again
         match self.newest(variable) {
             Some((_, bound)) => Ok(Some((bound.thing, bound.birthplace))),
             None => Ok(self.top.outermost(variable)),

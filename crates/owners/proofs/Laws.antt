@@ -1,8 +1,9 @@
 -- The owner is the innermost binder; captured says that a function body lies between.
-use Rattle.std.proofs.Common.{◌≡◌, ℕ, zero, suc, ◌+◌, ◌<◌, ◌≤◌, Bool, true, false, not, eqb, ◌⊎◌, is_some, Some, None, Option, sym, refl, ap, ◌∙◌, subst, inl, inr, arith}
-use Rattle.std.proofs.lemmas.Bool.{false≢true, false_from_ne_true, cases_Bool, cases_eq, cond-true, cond-false, and_parts, and_from, or_cases, or_left, or_right, eqb-true, eqb-false, eq-eqb, ne_eqb, not-true, not_from_false}
+use Rattle.std.proofs.Common.{◌≡◌, ℕ, zero, suc, ◌+◌, ◌<◌, ◌≤◌, Bool, true, false, not, eqb, ◌⊎◌, is_some, Some, sym, refl, ap, ◌∙◌, subst, inl, inr, arith}
+use Rattle.std.proofs.lemmas.Bool.{false≢true, false_from_ne_true, cases_Bool, cases_eq, cond-true, cond-false, and_parts, and_from, or_cases, or_left, or_right, eqb-false, ne_eqb, not-true, not_from_false}
 use Rattle.terms.specs.Script.{Script, last, term, first, spans, binds, is_body, occurs, binds_variable}
 use Rattle.terms.specs.WellFormed.{WellFormed}
+use Rattle.terms.proofs.Bound.{is_bound, bound_is}
 use Rattle.terms.proofs.Nesting.{spans_out, nested, binder_label, body_binds}
 use Rattle.owners.specs.Owners.{least, some_of, binds_over, owner_of, owner, between, captured}
 use Rattle.owners.specs.Laws.{Innermost, Unbound, Owned}
@@ -42,13 +43,6 @@ some_in (suc n) b f g low high h = elim (cases_eq g b) [
   | inl e ↦ or_left (f b) _ (ap f (sym e) ∙ h)
   | inr ne ↦ or_right (f b) _ (some_in n (suc b) f g (omega arith) (omega arith) h)
 ]
-
-is_bound : (o : Option ℕ) (x : ℕ) → binds_variable o x ≡ true → o ≡ Some x
-is_bound None x h = absurd (false≢true h)
-is_bound (Some y) x h = ap Some (eqb-true y x h)
-
-bound_is : (o : Option ℕ) (x : ℕ) → o ≡ Some x → binds_variable o x ≡ true
-bound_is o x e = ap (λ u. binds_variable u x) e ∙ eq-eqb x x refl
 
 module _ (p : Script) (w : WellFormed p) (l : ℕ) where
   small : (c x : ℕ) → binds p c ≡ Some x → (1 ≤ c) × (c < 255) × (c ≤ last p)

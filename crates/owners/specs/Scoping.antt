@@ -16,10 +16,6 @@ abbrev pub innermost : List Scope → Scope
 innermost [] = scope 0 0
 innermost (s ∷ ss) = s
 
-abbrev pub outer : List Scope → List Scope
-outer [] = []
-outer (s ∷ ss) = ss
-
 -- the binding that the store holds for an open scope
 abbrev pub binding_of : Script → Scope → Binding ℕ
 binding_of p s = record { variable = unwrap_or (binds p s.binder) 0; thing = s.function; birthplace = s.binder }

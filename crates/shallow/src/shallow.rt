@@ -61,7 +61,7 @@ impl<'a, T: Copy> Store for Shallow<'a, T> {
 
     fn look(&self, variable: u8) -> Result<Option<(T, u8)>, Fault> {
         check_variable(variable)?;
-        // no `or_else`: in generic code its closure needs a clause of its own
+        // `or_else` was tried: in generic code nothing is known of its closure's answer, but by a clause that says it again
         match self.cells.at(variable) {
             Some(current) => Ok(Some(current)),
             None => Ok(self.top.outermost(variable)),

@@ -22,10 +22,6 @@ module _ {T : Type 0} (m m' : Meaning T) (x : ℕ) (t : T) (b : ℕ) (r : Result
   bind_accepts low room = grind (arith, nat_tests)
 
 module _ {T : Type 0} (m m' : Meaning T) (r : Result (Unit {0}) Fault) (is : (r, m') ≡ unbind_of m) where
-  -- of a list with a binding in front
-  pub unbind_done : (b : Binding T) (bs : List (Binding T)) → m.bindings ≡ b ∷ bs → (r ≡ Ok tt) × (m' ≡ record { bindings = bs; top = m.top; limit = m.limit })
-  unbind_done b bs list = grind arith
-
   pub unbind_refused : (e : Fault) → r ≡ Err e → (m' ≡ m) × (m.bindings ≡ [])
   unbind_refused e err = grind arith
 

@@ -5,6 +5,7 @@ use faults::Fault;
 use std::marker::Model;
 
 // A stack in lent memory. The first `free` places are unused; behind them stand the items, newest first.
+// A slice with an index beside it, and no vector: the memory is the caller's, since nothing is allocated here.
 #[derive(Drop)]
 pub struct Stack<'a, R: Copy> {
     memory: &'a mut [R],

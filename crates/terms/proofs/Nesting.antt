@@ -1,7 +1,7 @@
 -- Spans lie one inside the other or apart; binders are labels below the entry, of variables below 32.
-use Rattle.std.proofs.Common.{◌≡◌, ℕ, zero, suc, ◌<◌, ◌≤◌, true, false, cond, ◌&&◌, eqb, ltb, leb, ◌⊎◌, List, [], ◌∷◌, ◌++◌, is_some, Some, None, Option, sym, refl, ap, ◌∙◌, inl, inr, arith}
+use Rattle.std.proofs.Common.{◌≡◌, ℕ, zero, suc, ◌<◌, ◌≤◌, true, cond, ◌&&◌, eqb, ltb, leb, ◌⊎◌, List, [], ◌∷◌, ◌++◌, is_some, Some, None, Option, sym, refl, ap, ◌∙◌, inl, inr, arith}
 use Rattle.std.proofs.lemmas.List.{get_or_past}
-use Rattle.std.proofs.lemmas.Bool.{and_parts, and_from, leb-true, le-leb, ltb-true, eqb-true, cases_lt, cases_eq, cases_Bool}
+use Rattle.std.proofs.lemmas.Bool.{false≢true, and_parts, and_from, leb-true, le-leb, ltb-true, eqb-true, cases_lt, cases_eq, cases_Bool}
 use Rattle.terms.specs.declared.term.Term.{Term}
 use Rattle.terms.specs.declared.term.Term.TheVariants.{Number, Quote, Lambda, Variable, Setq, Let, If, Apply, Cons, Car, Cdr, Add, Same}
 use Rattle.terms.specs.declared.term.Definition.{Definition}
@@ -10,9 +10,6 @@ use Rattle.terms.specs.Syntax.{children, symbol_of}
 use Rattle.terms.specs.Script.{Script, last, term_at, term, first, spans, bound_by, lambda_variable, or_else, defun_parameter, binds, parameter, is_body, occurs}
 use Rattle.terms.specs.Form.{definitions_right, roots}
 use Rattle.terms.specs.WellFormed.{Cover, WellFormed}
-
-pub unlike : false ≡ true → ⊥
-unlike e = cc
 
 pub spans_in : (p : Script) (b l : ℕ) → first p b ≤ l → l ≤ b → spans p b l ≡ true
 unfolding spans
@@ -86,7 +83,7 @@ module _ (p : Script) (w : WellFormed p) where
 
   form_label : (b : ℕ) → is_some (bound_by (term p (suc b))) ≡ true → (1 ≤ b) × (b < last p)
   form_label b h = elim (cases_lt (last p) (suc b)) [
-    | inl past ↦ (absurd (unlike (sym (ap (λ t. is_some (bound_by t)) (past_last b past)) ∙ h)))
+    | inl past ↦ (absurd (false≢true (sym (ap (λ t. is_some (bound_by t)) (past_last b past)) ∙ h)))
     | inr le ↦ (let s : first p (suc b) ≤ b = body_some (term p (suc b)) (first p (suc b)) b h (w.covered (suc b) (omega arith) le) in
         let one : 1 ≤ first p (suc b) = w.begins (suc b) (omega arith) le in
         (omega arith, omega arith))

@@ -78,10 +78,6 @@ onward f [] o = o
 onward f (c ∷ cs) o = joined f c (onward f cs o)
 
 module _ (f : ℕ → ℕ) where
-  pub opening_onward : (cs : List ℕ) (l : ℕ) → onward f cs (Some l) ≡ opening f cs l
-  opening_onward [] l = refl
-  opening_onward (c ∷ cs) l = ap (joined f c) (opening_onward cs l)
-
   onward_more : (cs : List ℕ) (c : ℕ) (o : Option ℕ) → onward f (cs ++ (c ∷ [])) o ≡ onward f cs (joined f c o)
   onward_more [] c o = refl
   onward_more (d ∷ cs) c o = ap (joined f d) (onward_more cs c o)

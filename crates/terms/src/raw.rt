@@ -1,4 +1,4 @@
-// A row of the term table as it is handed in: any numbers, right or wrong.
+// A row of the term table as it is handed in: the kind too is any number, right or wrong.
 #[derive(Clone, Copy)]
 pub struct RawTerm {
     pub kind: u32,
@@ -7,7 +7,7 @@ pub struct RawTerm {
     pub c: u32,
 }
 
-// A definition as it is handed in.
+// A definition as it is handed in. The kinds are numbers here, since any number may be handed in, right or wrong.
 #[derive(Clone, Copy)]
 pub struct RawDefinition {
     pub kind: u32,

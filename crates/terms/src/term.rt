@@ -145,7 +145,7 @@ impl Default for Definition {
 }
 
 impl Term {
-    // The other kinds than numbers.
+    // The other kinds than numbers; the kind is a number as the row has it, and this is where it becomes a term.
     fn of_kind(kind: u32, a: u8, b: u8, c: u8) -> Option<Term>
         ensures { result ≡ of_kind kind a b c }
     {

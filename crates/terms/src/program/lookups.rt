@@ -43,7 +43,7 @@ impl Program {
         self.table.first(label)
     }
 
-    // The term just above `label`; `label` is its last child, if it has any. Where there is none, nil quoted.
+    // The term just above `label`; `label` is its last child, if it has any. Where there is none, nil quoted, as the definition of a binder reads it.
     fn above(&self, label: u8) -> Term
         ensures { result ≡ term (model self.now) (suc label) }
     {
