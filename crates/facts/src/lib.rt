@@ -10,4 +10,4 @@ pub use lists::ListTable;
 pub use members::Members;
 pub use numbering::{Fact, Set, Unassigned};
 pub use table::{Facts, SETS, within};
-pub use words::WordTable;
+pub use words::{WORDS, WordTable};

@@ -7,7 +7,7 @@ use faults::Fault;
 // words of a set
 const ROW: usize = 72;
 
-const WORDS: usize = ROW * SETS as usize;
+pub const WORDS: usize = ROW * SETS as usize;
 
 // 72 words for each set, lent by the caller.
 #[derive(Clone, Copy)]
