@@ -1,5 +1,5 @@
 -- the first number that p takes
-use Rattle.std.proofs.Common.{◌≡◌, ℕ, zero, suc, ◌+◌, ◌-◌, ◌<◌, ◌≤◌, Bool, true, false, ◌&&◌, ltb, ◌⊎◌, List, [], ◌∷◌, Some, None, Option, MatchOption, sym, refl, ap, ◌∙◌, ⊎_elim, arith}
+use Rattle.std.proofs.Common.{◌≡◌, ℕ, zero, suc, ◌+◌, ◌-◌, ◌*◌, ◌<◌, ◌≤◌, Bool, true, false, ◌&&◌, ltb, ◌⊎◌, List, [], ◌∷◌, Some, None, Option, MatchOption, sym, refl, ap, ◌∙◌, ⊎_elim, arith}
 use Rattle.std.proofs.lemmas.Bool.{false_from_ne_true, and_parts, lt-ltb, ltb-true, cond-true, cond-false, cases_lt, cases_eq, cases_Bool}
 use denote.Param.Members.{Mut}
 use denote.Ref.{Bor}
@@ -8,7 +8,7 @@ use Rattle.std.specs.Fn.{CalledAt}
 use Rattle.std.specs.Iterator.{FindsItem, Yields}
 use Rattle.std.proofs.iter.Yields.{nat_range_steps}
 use Rattle.std.proofs.lemmas.Iterator.{first_from_Range}
-use Rattle.facts.specs.Table.{holds, first_of, Smallest, Next}
+use Rattle.facts.specs.Table.{holds, MemberNumbered, first_of, Smallest, Next}
 
 pub first_at : (p : ℕ → Bool) (from n f : ℕ) → from ≤ f → f < from + n → p f ≡ true → ((k : ℕ) → from ≤ k → k < f → p k ≡ false)
     → Some f ≡ first_of p from n
@@ -77,6 +77,12 @@ module _ (h : ℕ → ℕ → Bool) (s from : ℕ) where
   next_none all = next_by None (λ k lo. ⊎_elim (all k lo) (λ hi. false_from_ne_true _ (λ e. omega (arith, (holds_parts h s k e).1))) (cases_lt k 4608))
 
   -- past the last set or the last fact there is none
-  pub next_no_more : (4608 ≤ s) ⊎ ((s < 4608) × (4608 ≤ from)) → Next h s from None
+  pub next_no_more : (4608 ≤ s) ⊎ (4608 ≤ from) → Next h s from None
   next_no_more l =
-      next_by None (λ k m. false_from_ne_true _ (λ e. let p = holds_parts h s k e in ⊎_elim (λ a. omega (arith, p.0)) (λ b. omega (arith, p.1, b.1)) l))
+      next_by None (λ k m. false_from_ne_true _ (λ e. let p = holds_parts h s k e in ⊎_elim (λ a. omega (arith, p.0)) (λ b. omega (arith, p.1)) l))
+
+-- past the numbers of sets and facts nothing is held
+pub has_by : (h : ℕ → ℕ → Bool) (s f : ℕ) (o : Option ℕ) (b : Bool) (Q : ℕ → Type 0) → MemberNumbered s f o → MatchOption o (b ≡ false) Q
+    → ((n : ℕ) → s < 4608 → f < 4608 → n ≡ 4608 * s + f → Q n → b ≡ h s f) → b ≡ holds h s f
+has_by h s f None b Q m e at = e ∙ sym (false_from_ne_true _ (λ t. let p = holds_parts h s f t in ⊎_elim (λ l. omega (arith, p.0)) (λ l. omega (arith, p.1)) m))
+has_by h s f (Some n) b Q m q at = at n m.0 m.1 m.2 q ∙ holds_at h s f m.0 m.1

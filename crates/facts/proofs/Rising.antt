@@ -1,5 +1,5 @@
 -- rising lists of numbers, and the table that they make
-use Rattle.std.proofs.Common.{◌≡◌, ℕ, zero, suc, ◌+◌, ◌-◌, ◌*◌, ◌<◌, ◌≤◌, true, false, not, eqb, ltb, ◌⊎◌, List, [], ◌∷◌, length, get_or, Some, None, Ok, Err, is_ok, Result, MatchResult, Option, sym, refl, ap, ◌∙◌, subst, inl, inr, ⊎_elim, sub-one, arith}
+use Rattle.std.proofs.Common.{◌≡◌, ℕ, zero, suc, ◌+◌, ◌-◌, ◌*◌, ◌<◌, ◌≤◌, true, false, not, eqb, ltb, ◌⊎◌, List, [], ◌∷◌, length, get_or, is_some, Some, None, Ok, Err, is_ok, IfSome, Result, MatchResult, Option, sym, refl, ap, ◌∙◌, subst, inl, inr, ⊎_elim, sub-one, arith}
 use Rattle.std.specs.List.Sorted.{IsBinarySearchResult, IsPartitionedBy, IsPartitionPoint}
 use Rattle.std.specs.Ordering.{nat_cmp}
 use Rattle.std.proofs.lemmas.List.Sorted.{searched, IsPartitionedBy-ltb, IsNonDecreasingBy-from_default}
@@ -51,17 +51,20 @@ module _ (ns : List ℕ) (s from i : ℕ) (up : Rises ns) (hs : s < 4608) (p : P
       let g : i ≤ f.0 = ⊎_elim (λ b. absurd (omega (arith, p.below f.0 b, f.2))) (λ b. b) (cases_lt f.0 i) in
       (omega (arith, f.1), omega (arith, rises_le ns up i f.0 g f.1, f.2), c.1)
 
-  pub next_some : i < length ns → get_or ns i 0 - 4608 * s < 4608 → Smallest (holds (in_list ns) s) from (Some (get_or ns i 0 - 4608 * s))
-  next_some h l =
-      let a = p.above i (omega arith) h in
-      let e : 4608 * s + (get_or ns i 0 - 4608 * s) ≡ get_or ns i 0 = omega arith in
-      (omega arith, sym (holds_at (in_list ns) s _ hs l) ∙ among_at ns i _ h (sym e), λ k m n. false_from_ne_true _ (λ t. omega (arith, (stands k m t).1)))
+  abbrev fact : ℕ
+  fact = from + (get_or ns i 0 - (4608 * s + from))
 
   pub next_past : length ns ≤ i → Smallest (holds (in_list ns) s) from None
   next_past h = λ k m. false_from_ne_true _ (λ t. omega (arith, (stands k m t).0))
 
-  pub next_over : i < length ns → 4608 ≤ get_or ns i 0 - 4608 * s → Smallest (holds (in_list ns) s) from None
-  next_over h l = λ k m. false_from_ne_true _ (λ t. omega (arith, (stands k m t).1, (stands k m t).2))
+  pub next_there : i < length ns → (x : ℕ) → x ≡ fact → (r : Option ℕ) → is_some r ≡ ltb x 4608 → (Q : ℕ → Type 0) → IfSome r Q → ((f : ℕ) → Q f → f ≡ x) → Smallest (holds (in_list ns) s) from r
+  next_there h x q None v Q m to = λ k m. false_from_ne_true _ (λ t. omega (arith, q, ltb-false _ _ (sym v), (stands k m t).1, (stands k m t).2))
+  next_there h x q (Some f) v Q m to =
+      let e = to f m in
+      let a = p.above i (omega arith) h in
+      let l = ltb-true _ _ (sym v) in
+      let g : 4608 * s + f ≡ get_or ns i 0 = omega (arith, q, e, a) in
+      (omega (arith, q, e), sym (holds_at (in_list ns) s f hs (omega (arith, e, l))) ∙ among_at ns i _ h (sym g), λ k m n. false_from_ne_true _ (λ t. omega (arith, q, e, (stands k m t).1)))
 
 -- a list with each number in order rises
 rises_from : (ns : List ℕ) → ((i : ℕ) → i < length ns → in_order ns i ≡ true) → Rises ns

@@ -5,7 +5,7 @@ use Rattle.std.specs.Int.{bit_at, trailing_zeros}
 use Rattle.std.proofs.lemmas.Bool.{eq-eqb, eqb-true, eqb-false, not-true, not-false, both_ways, cases_lt}
 use Rattle.std.proofs.lemmas.Nat.Bits.{bit_at-zero, bit_at_above, bit_at-trailing_zeros}
 use Rattle.facts.specs.Table.{holds, Smallest}
-use Rattle.facts.specs.Words.{bit, in_words}
+use Rattle.facts.specs.Words.{bit, in_words, filled}
 use Rattle.facts.proofs.Firsts.{holds_at}
 
 bit_clear : (w k : ℕ) → bit_at w k ≡ 0 → bit w k ≡ false
@@ -54,35 +54,44 @@ module _ (ws : List ℕ) (s q : ℕ) (hs : s < 4608) (hq : q < 72) where
       × ((k : ℕ) → 64 * q ≤ k → k < 64 * q + trailing_zeros w64 word → holds (in_words ws) s k ≡ false)
   first_in_word fits nz = simp (div-one, add-zero) at (first_from 0 fits (λ z. nz (sym (div-one word) ∙ z)))
 
--- word w of set s has a fact
-abbrev pub filled : List ℕ → ℕ → ℕ → Bool
-filled ws s w = not (eqb (get_or ws (72 * s + w) 0) 0)
+-- fact `from`, with the number n
+module _ (ws : List ℕ) (s from n : ℕ) (hs : s < 4608) (hf : from < 4608) (hn : n ≡ 4608 * s + from) where
+  pub word_of : n / 64 ≡ 72 * s + from / 64
+  word_of = omega arith
 
--- the word that fact `from` stands in
-module _ (ws : List ℕ) (s from : ℕ) (hs : s < 4608) (hf : from < 4608) where
+  pub bit_of : n % 64 ≡ from % 64
+  bit_of = omega arith
+
   whole : 64 * (from / 64) + from % 64 ≡ from
   whole = omega arith
 
-  none_after : get_or ws (72 * s + from / 64) 0 / 2 ^ (from % 64) ≡ 0 → (k : ℕ) → from ≤ k → k < 64 * (from / 64 + 1) → holds (in_words ws) s k ≡ false
-  none_after z k lo hi = none_from ws s (from / 64) hs (omega arith) (from % 64) z k (omega arith) (omega arith)
+  none_after : get_or ws (n / 64) 0 / 2 ^ (n % 64) ≡ 0 → (k : ℕ) → from ≤ k → k < 64 * (from / 64 + 1) → holds (in_words ws) s k ≡ false
+  none_after z k lo hi = none_from ws s (from / 64) hs (omega arith) (from % 64) (rw (word_of, bit_of) at z) k (omega arith) (omega arith)
 
-  pub first_after : get_or ws (72 * s + from / 64) 0 < 2 ^ 64 → (get_or ws (72 * s + from / 64) 0 / 2 ^ (from % 64) ≡ 0 → ⊥)
-      → Smallest (holds (in_words ws) s) from (Some (from + trailing_zeros w64 (get_or ws (72 * s + from / 64) 0 / 2 ^ (from % 64))))
-  first_after fits nz =
-      let f = rw whole at (first_from ws s (from / 64) hs (omega arith) (from % 64) fits nz) in
-      (omega arith, f.0, f.1)
+  pub first_after : get_or ws (n / 64) 0 < 2 ^ 64 → (get_or ws (n / 64) 0 / 2 ^ (n % 64) ≡ 0 → ⊥)
+      → Smallest (holds (in_words ws) s) from (Some (from + trailing_zeros w64 (get_or ws (n / 64) 0 / 2 ^ (n % 64))))
+  first_after fits nz = rw (word_of, bit_of) (first (rw word_of at fits) (rw (word_of, bit_of) at nz))
+    where
+      first : get_or ws (72 * s + from / 64) 0 < 2 ^ 64 → (get_or ws (72 * s + from / 64) 0 / 2 ^ (from % 64) ≡ 0 → ⊥)
+          → Smallest (holds (in_words ws) s) from (Some (from + trailing_zeros w64 (get_or ws (72 * s + from / 64) 0 / 2 ^ (from % 64))))
+      first fits nz =
+          let f = rw whole at (first_from ws s (from / 64) hs (omega arith) (from % 64) fits nz) in
+          (omega arith, f.0, f.1)
 
-  -- where that has none, and the words after it have none up to word q
-  module _ (z : get_or ws (72 * s + from / 64) 0 / 2 ^ (from % 64) ≡ 0) (q : ℕ) (h : q ≤ 72) (none : (w : ℕ) → from / 64 + 1 ≤ w → w < q → filled ws s w ≡ false) where
-    pub none_before : (k : ℕ) → from ≤ k → k < 64 * q → holds (in_words ws) s k ≡ false
-    none_before k lo hi = ⊎_elim (none_after z k lo)
+  -- where its word has none from it on, and the words after that have none up to word q
+  module _ (z : get_or ws (n / 64) 0 / 2 ^ (n % 64) ≡ 0) (q : ℕ) (none : (w : ℕ) → n / 64 + 1 ≤ w → w < q → filled ws w ≡ false) where
+    pub none_before : (k : ℕ) → from ≤ k → k < 4608 → 4608 * s + k < 64 * q → holds (in_words ws) s k ≡ false
+    none_before k lo few hi = ⊎_elim (none_after z k lo)
         (λ l.
-        let e : get_or ws (72 * s + k / 64) 0 ≡ 0 = eqb-true _ _ (not-false _ (none (k / 64) (omega arith) (omega arith))) in
+        let e : get_or ws (72 * s + k / 64) 0 ≡ 0 = eqb-true _ _ (not-false _ (none (72 * s + k / 64) (omega arith) (omega arith))) in
         none_from ws s (k / 64) hs (omega arith) 0 (div-one (get_or ws (72 * s + k / 64) 0) ∙ e) k (omega arith) (omega arith))
         (cases_lt k (64 * (from / 64 + 1)))
 
-    pub first_later : from / 64 + 1 ≤ q → q < 72 → filled ws s q ≡ true → get_or ws (72 * s + q) 0 < 2 ^ 64
-        → Smallest (holds (in_words ws) s) from (Some (64 * q + trailing_zeros w64 (get_or ws (72 * s + q) 0)))
+    pub first_later : n / 64 + 1 ≤ q → q < 72 * (s + 1) → filled ws q ≡ true → get_or ws q 0 < 2 ^ 64
+        → Smallest (holds (in_words ws) s) from (Some (from + (64 * q + trailing_zeros w64 (get_or ws q 0) - n)))
     first_later l g full fits =
-        let f = first_in_word ws s q hs g fits (eqb-false _ _ (not-true _ full)) in
-        (omega arith, f.0, λ k lo hi. ⊎_elim (none_before k lo) (λ m. f.1 k m hi) (cases_lt k (64 * q)))
+        let i = q - 72 * s in
+        let e : 72 * s + i ≡ q = omega arith in
+        let f = rw e at (first_in_word ws s i hs (omega arith) (rw e fits) (λ d. eqb-false _ _ (not-true _ full) (ap (λ w. get_or ws w 0) (sym e) ∙ d))) in
+        let m : from + (64 * q + trailing_zeros w64 (get_or ws q 0) - n) ≡ 64 * i + trailing_zeros w64 (get_or ws q 0) = omega arith in
+        rw m (omega arith, f.0, λ k lo hi. ⊎_elim (λ b. none_before k lo (omega arith) (omega arith)) (λ b. f.1 k b hi) (cases_lt k (64 * i)))

@@ -1,9 +1,14 @@
 -- A fact table means a set of facts for each set number: h s f says whether set s holds fact f.
-use Rattle.std.specs.Prelude.{◌≡◌, ℕ, zero, suc, ◌-◌, ◌<◌, ◌≤◌, Bool, true, false, cond, ◌&&◌, List, [], ◌∷◌, Some, None, Option, nat_lt}
+use Rattle.std.specs.Prelude.{◌≡◌, ℕ, zero, suc, ◌+◌, ◌-◌, ◌*◌, ◌<◌, ◌≤◌, ◌⊎◌, Bool, true, false, cond, ◌&&◌, List, [], ◌∷◌, Some, None, Option, nat_lt}
 
 -- Sets and facts have numbers below 4,608. A set number above 4,607 gets no and none, whatever h says there, and so does a fact.
 abbrev pub holds : (ℕ → ℕ → Bool) → ℕ → ℕ → Bool
 holds h s f = nat_lt s 4608 && (nat_lt f 4608 && h s f)
+
+-- Fact f of set s has the number 4,608 s + f; past the numbers of sets and facts there is none.
+abbrev pub MemberNumbered : ℕ → ℕ → Option ℕ → Type 0
+MemberNumbered s f None = (4608 ≤ s) ⊎ (4608 ≤ f)
+MemberNumbered s f (Some n) = (s < 4608) × (f < 4608) × (n ≡ 4608 * s + f)
 
 -- the first of the n numbers from `from` on that p takes, or none (shut, since n may be thousands)
 unfoldable pub first_of : (ℕ → Bool) → ℕ → ℕ → Option ℕ

@@ -9,5 +9,5 @@ mod words;
 pub use lists::ListTable;
 pub use members::Members;
 pub use numbering::{Fact, Set, Unassigned};
-pub use table::{Facts, SETS, within};
+pub use table::{Facts, SETS, member_number, within};
 pub use words::{WORDS, WordTable};

@@ -1,7 +1,7 @@
 ghost use Rattle.std.specs.Prelude.{◌≡◌, ◌<◌, [], Ok, Err, length, MatchResult};
 ghost use Rattle.facts.specs.Lists.{in_list, in_order, list_rule, Rises, Place};
 
-use crate::table::{Facts, SETS};
+use crate::table::{Facts, SETS, member_number};
 use faults::Fault;
 
 const SPAN: u32 = SETS as u32;
@@ -57,7 +57,7 @@ fn ordered(numbers: &[u32], index: u16) -> bool
     requires { index < length numbers.now }
     ensures { result ≡ in_order numbers.now index }
 {
-    let i = index as usize;
+    let i = usize::from(index);
     numbers[i] < SPAN * SPAN && (i == 0 || numbers[i - 1] < numbers[i])
 }
 
@@ -65,20 +65,13 @@ impl<'a> Facts for ListTable<'a> {
     ghost members = { λ t. in_list t.numbers.now };
 
     fn has(&self, set: u16, fact: u16) -> bool {
-        if set >= SETS || fact >= SETS {
-            return false;
-        }
-        let n = SPAN * set as u32 + fact as u32;
-        self.numbers.binary_search(&n).is_ok()
+        member_number(set, fact).is_some_and(|n| self.numbers.binary_search(&n).is_ok())
     }
 
     fn next(&self, set: u16, from: u16) -> Option<u16> {
-        if set >= SETS || from >= SETS {
-            return None;
-        }
-        let first = SPAN * set as u32;
-        let number = *self.numbers.get(self.place(first + from as u32))?;
-        let fact = number - first;
-        if fact < SPAN { Some(fact as u16) } else { None }
+        let start = member_number(set, from)?;
+        let number = *self.numbers.get(self.place(start))?;
+        let fact = u32::from(from) + (number - start);
+        (fact < SPAN).then(|| fact as u16)
     }
 }

@@ -41,10 +41,10 @@ impl From<Fact> for u16 {
 
     fn from(fact: Fact) -> u16 {
         match fact {
-            Fact::Symbol(symbol) => symbol as u16,
+            Fact::Symbol(symbol) => u16::from(symbol),
             Fact::Number => 32,
-            Fact::Function(body) => 64 + body as u16,
-            Fact::Pair { cons, context } => 512 + 16 * cons as u16 + context as u16,
+            Fact::Function(body) => 64 + u16::from(body),
+            Fact::Pair { cons, context } => 512 + 16 * u16::from(cons) + u16::from(context),
         }
     }
 }
@@ -82,9 +82,9 @@ impl From<Set> for u16 {
 
     fn from(set: Set) -> u16 {
         match set {
-            Set::Flow { label, context } => 16 * label as u16 + context as u16,
-            Set::Top(variable) => 4096 + variable as u16,
-            Set::Bound(binder) => 4352 + binder as u16,
+            Set::Flow { label, context } => 16 * u16::from(label) + u16::from(context),
+            Set::Top(variable) => 4096 + u16::from(variable),
+            Set::Bound(binder) => 4352 + u16::from(binder),
         }
     }
 }

@@ -1,10 +1,20 @@
 ghost use Rattle.std.specs.Prelude.{◌≡◌, ℕ, Bool, Decides};
-ghost use Rattle.facts.specs.Table.{holds, Next, Within};
+ghost use Rattle.facts.specs.Table.{holds, MemberNumbered, Next, Within};
 
 use crate::members::Members;
 
 // Sets are numbered below this, and so are facts.
 pub const SETS: u16 = 4608;
+
+// The number 4,608 × set + fact of a fact in a set, or none past the numbers of sets and facts.
+pub fn member_number(set: u16, fact: u16) -> Option<u32>
+    ensures { MemberNumbered set fact result }
+{
+    if set >= SETS || fact >= SETS {
+        return None;
+    }
+    Some(u32::from(SETS) * u32::from(set) + u32::from(fact))
+}
 
 // A set of facts for each set number. Past the numbers of sets and facts, `members` does not count.
 pub trait Facts {

@@ -1,7 +1,7 @@
-ghost use Rattle.std.specs.Prelude.{◌≡◌, Ok, Err, length, MatchResult};
-ghost use Rattle.facts.specs.Words.{in_words, word_rule};
+ghost use Rattle.std.specs.Prelude.{◌≡◌, ◌≤◌, Ok, Err, length, MatchResult};
+ghost use Rattle.facts.specs.Words.{in_words, word_rule, FirstFilled};
 
-use crate::table::{Facts, SETS};
+use crate::table::{Facts, SETS, member_number};
 use faults::Fault;
 
 // words of a set
@@ -25,30 +25,35 @@ impl<'a> WordTable<'a> {
         }
         Ok(WordTable { words })
     }
+
+    // the first word from `from` on, and before `end`, that has a fact
+    fn next_filled(&self, from: usize, end: usize) -> Option<usize>
+        requires { end ≤ 331776 }
+        ensures { FirstFilled self.now.words.now from end result }
+    {
+        (from..end).find(|w| self.words[*w] != 0)
+    }
 }
 
 impl<'a> Facts for WordTable<'a> {
     ghost members = { λ t. in_words t.words.now };
 
     fn has(&self, set: u16, fact: u16) -> bool {
-        if set >= SETS || fact >= SETS {
+        let Some(n) = member_number(set, fact) else {
             return false;
-        }
-        let word = self.words[ROW * set as usize + fact as usize / 64];
-        (word >> (fact % 64)) & 1 == 1
+        };
+        let word = self.words[n as usize / 64];
+        (word >> (n % 64)) & 1 == 1
     }
 
     fn next(&self, set: u16, from: u16) -> Option<u16> {
-        if set >= SETS || from >= SETS {
-            return None;
-        }
-        let base = ROW * set as usize;
-        let first = from as usize / 64;
-        let rest = self.words[base + first] >> (from % 64);
+        let start = member_number(set, from)? as usize;
+        let rest = self.words[start / 64] >> (start % 64);
         if rest != 0 {
             return Some(from + rest.trailing_zeros() as u16);
         }
-        let w = (first + 1..ROW).find(|w| self.words[base + *w] != 0)?;
-        Some(64 * w as u16 + self.words[base + w].trailing_zeros() as u16)
+        let w = self.next_filled(start / 64 + 1, ROW * (usize::from(set) + 1))?;
+        let number = 64 * w + self.words[w].trailing_zeros() as usize;
+        Some(from + (number - start) as u16)
     }
 }
