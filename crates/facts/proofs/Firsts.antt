@@ -1,11 +1,11 @@
 -- the first number that p takes
-use Rattle.std.proofs.Common.{◌≡◌, ℕ, zero, suc, ◌+◌, ◌-◌, ◌*◌, ◌<◌, ◌≤◌, Bool, true, false, ◌&&◌, ltb, ◌⊎◌, List, [], ◌∷◌, Some, None, Option, MatchOption, sym, refl, ap, ◌∙◌, ⊎_elim, arith}
+use Rattle.std.proofs.Common.{◌≡◌, ℕ, zero, suc, ◌+◌, ◌-◌, ◌*◌, ◌<◌, ◌≤◌, Bool, true, false, ◌&&◌, ltb, ◌⊎◌, Some, None, Option, MatchOption, sym, refl, ap, ◌∙◌, ⊎_elim, arith}
 use Rattle.std.proofs.lemmas.Bool.{false_from_ne_true, and_parts, lt-ltb, ltb-true, cond-true, cond-false, cases_lt, cases_eq, cases_Bool}
 use denote.Param.Members.{Mut}
 use denote.Ref.{Bor}
 use Rattle.std.specs.declared.ops.Range.{Range}
 use Rattle.std.specs.Fn.{CalledAt}
-use Rattle.std.specs.Iterator.{FindsItem, Yields}
+use Rattle.std.specs.Iterator.{FindsItem}
 use Rattle.std.proofs.iter.Yields.{nat_range_steps}
 use Rattle.std.proofs.lemmas.Iterator.{first_from_Range}
 use Rattle.facts.specs.Table.{holds, MemberNumbered, first_of, Smallest, Next}
@@ -34,17 +34,9 @@ none_first p from (suc n) e k lo hi =
     (λ t. ⊎_elim (λ q. ap p (sym q) ∙ t) (λ d. none_first p (suc from) n (e ∙ cond-false (p from) _ _ t) k (omega arith) (omega arith)) (cases_eq from k))
     (cases_Bool (p from))
 
--- what `find` answers over a range is below its end
-end_stays : (xs : List ℕ) (s t : Range ℕ) → Yields nat_range_steps s xs t → t.end ≡ s.end
-end_stays [] s t e = ap (λ r. r.end) (sym e)
-end_stays (x ∷ xs) s t y = end_stays xs y.0 t y.2 ∙ y.1.0
-
-pub found_below : {F : Type 0} {g : Mut F (Bor ℕ × Unit {0}) Bool} {s u : Range ℕ} {f : F} (i : ℕ) → FindsItem nat_range_steps g s f (Some i) u → i < s.end
-found_below {s = s} i ran = let e = end_stays ran.0 s ran.2.0 ran.2.1 in let at = ran.2.2.1 in omega (arith, at.0, at.1)
-
 -- what `find` answers over a range, with p the test that its closure computes
 module _ {F : Type 0} {g : Mut F (Bor ℕ × Unit {0}) Bool} (p : ℕ → Bool) {s : Range ℕ} (u : Range ℕ) {f : F} where
-  pub found : (r : Option ℕ) → FindsItem nat_range_steps g s f r u → ((x : ℕ) (b : Bool) (q : F) → CalledAt g f x b q → (q ≡ f) × (b ≡ p x))
+  found : (r : Option ℕ) → FindsItem nat_range_steps g s f r u → ((x : ℕ) (b : Bool) (q : F) → CalledAt g f x b q → (q ≡ f) × (b ≡ p x))
       → MatchOption r ((k : ℕ) → s.start ≤ k → k < s.end → p k ≡ false) (λ i. (s.start ≤ i) × (i < s.end) × (p i ≡ true) × ((k : ℕ) → s.start ≤ k → k < i → p k ≡ false))
   found r ran at = first_from_Range s u f r (λ k. p k ≡ true) (λ k. p k ≡ false) ran (λ x q k. sym (at x true q k).1) (λ x q k. ((at x false q k).0, sym (at x false q k).1))
 

@@ -1,5 +1,5 @@
 -- the first set bit from a given number on, in the words of a set
-use Rattle.std.proofs.Common.{◌≡◌, ℕ, ◌+◌, ◌-◌, ◌*◌, ◌/◌, ◌%◌, ◌^◌, ◌<◌, ◌≤◌, true, false, Bool, not, eqb, List, get_or, Some, sym, refl, ap, ◌∙◌, ⊎_elim, add-zero, div-one, arith, shr-shr, w64}
+use Rattle.std.proofs.Common.{◌≡◌, ℕ, ◌+◌, ◌-◌, ◌*◌, ◌/◌, ◌%◌, ◌^◌, ◌<◌, ◌≤◌, true, false, List, get_or, Some, sym, refl, ap, ◌∙◌, ⊎_elim, add-zero, div-one, arith, shr-shr, w64}
 use lib.Pow.{shr_le}
 use Rattle.std.specs.Int.{bit_at, trailing_zeros}
 use Rattle.std.proofs.lemmas.Bool.{eq-eqb, eqb-true, eqb-false, not-true, not-false, both_ways, cases_lt}

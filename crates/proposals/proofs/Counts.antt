@@ -1,12 +1,13 @@
 -- every and some number below a bound
-use Rattle.std.proofs.Common.{◌≡◌, ℕ, zero, suc, ◌+◌, ◌<◌, ◌≤◌, Bool, true, Decides, refl, ap, sym, ◌∙◌, ⊎_elim, arith}
+use Rattle.std.proofs.Common.{◌≡◌, ℕ, ◌+◌, ◌<◌, Bool, true, get_or, Decides, refl, ap, sym, ◌∙◌, arith}
 use denote.Param.Members.{Mut}
 use Rattle.std.specs.declared.ops.Range.{Range}
 use Rattle.std.specs.Fn.{Called}
 use Rattle.std.specs.Iterator.{ChecksAll}
 use Rattle.std.specs.List.{list_all, range_with_len}
 use Rattle.std.proofs.iter.Yields.{nat_range_steps}
-use Rattle.std.proofs.lemmas.Bool.{and_parts, and_from, cases_eq}
+use Rattle.std.proofs.lemmas.List.FromFn.{length-range_with_len, get_or-range_with_len}
+use Rattle.std.proofs.lemmas.List.Sums.{AllPass-from_list_all, list_all-from_AllPass}
 use Rattle.std.proofs.lemmas.Bool.Decides.{Decides-below_and, Decides-below_or, same_from_decides}
 use Rattle.std.proofs.lemmas.Iterator.{YieldsList-from_range}
 use Rattle.std.proofs.lemmas.Iterator.Search.{all_from_yields_List}
@@ -33,19 +34,15 @@ pub some_where : (n : ℕ) (f : ℕ → Bool) → some n f ≡ true → (i : ℕ
 some_where n f = (some_decides n f).0
 
 -- the same of the numbers of a range
-range_at : (p : ℕ → Bool) (from n : ℕ) → list_all p (range_with_len from n) ≡ true → (i : ℕ) → from ≤ i → i < from + n → p i ≡ true
-range_at p from zero e i lo hi = absurd (omega arith)
-range_at p from (suc n) e i lo hi =
-    let a = and_parts (p from) _ e in
-    ⊎_elim (λ q. ap p (sym q) ∙ a.0) (λ d. range_at p (from + 1) n a.1 i (omega arith) (omega arith)) (cases_eq from i)
-
-range_from : (p : ℕ → Bool) (from n : ℕ) → ((i : ℕ) → from ≤ i → i < from + n → p i ≡ true) → list_all p (range_with_len from n) ≡ true
-range_from p from zero all = refl
-range_from p from (suc n) all = and_from _ _ (all from (omega arith) (omega arith)) (range_from p (from + 1) n (λ i lo hi. all i (omega arith) (omega arith)))
+range_at : (n i d : ℕ) → i < n → get_or (range_with_len 0 n) i d ≡ i
+range_at n i d l = let z : 0 + i ≡ i = omega arith in get_or-range_with_len 0 n i d l ∙ z
 
 range_every : (p : ℕ → Bool) (n : ℕ) → list_all p (range_with_len 0 n) ≡ every n p
 range_every p n =
-    same_from_decides _ _ (λ e i l. range_at p 0 n e i (omega arith) (omega arith), λ all. range_from p 0 n (λ i lo hi. all i (omega arith))) (every_decides n p)
+    let len = length-range_with_len 0 n in
+    same_from_decides _ _
+    (λ e i l. ap p (sym (range_at n i 0 l)) ∙ AllPass-from_list_all p _ e i 0 (omega (arith, len)), λ all. list_all-from_AllPass p _ (λ i d l. let h : i < n = omega (arith, len) in ap p (range_at n i d h) ∙ all i h))
+    (every_decides n p)
 
 -- what `all` answers over a range, with p the test that its closure computes
 pub all_in_range : {F : Type 0} {g : Mut F (ℕ × Unit {0}) Bool} (p : ℕ → Bool) {s : Range ℕ} (u : Range ℕ) {f : F} (r : Bool) (n : ℕ)

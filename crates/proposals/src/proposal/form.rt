@@ -114,7 +114,7 @@ impl<'a, 'b, F: Facts> Inspection<'a, 'b, F> {
     fn may_list(&self, label: u8, context: u8) -> bool
         ensures { result ≡ may_list (script self.now) (inspected F.members self.now) label context }
     {
-        1 <= label && label <= self.program.last() && context < self.proposal.contexts()
+        (1..=self.program.last()).contains(&label) && context < self.proposal.contexts()
     }
 
     // the first fact of the set that is not right
@@ -127,6 +127,7 @@ impl<'a, 'b, F: Facts> Inspection<'a, 'b, F> {
     fn fact_right(&self, number: u16) -> bool
         ensures { result ≡ fact_right (script self.now) (inspected F.members self.now) number }
     {
+        // `is_ok_and` was tried, as was `map`: the proof learns nothing of what the closure returns, even by a clause on it.
         match Fact::try_from(number) {
             Ok(fact) => self.names(fact),
             Err(_) => false,

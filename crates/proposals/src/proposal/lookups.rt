@@ -9,7 +9,7 @@ use facts::Facts;
 fn number(numbers: &[u16], at: usize) -> u16
     ensures { result ≡ slice_index numbers.now at }
 {
-    numbers.get(at).copied().unwrap_or(0)
+    numbers.get(at).copied().unwrap_or_default()
 }
 
 impl<'a, F: Facts> Proposal<'a, F> {
@@ -25,7 +25,7 @@ impl<'a, F: Facts> Proposal<'a, F> {
         ensures { result ≡ entry (tables F.members self.now) context variable }
     {
         if variable < 32 {
-            number(self.rows, 32 * context as usize + variable as usize)
+            number(self.rows, 32 * usize::from(context) + usize::from(variable))
         } else {
             0
         }
@@ -35,7 +35,7 @@ impl<'a, F: Facts> Proposal<'a, F> {
     pub fn listed(&self, label: u8, context: u8) -> bool
         ensures { result ≡ listed (tables F.members self.now) label context }
     {
-        context < 16 && (number(self.masks, label as usize) >> context) & 1 == 1
+        context < 16 && (number(self.masks, usize::from(label)) >> context) & 1 == 1
     }
 
     // The context that is this one with another birthplace for the variable.
@@ -54,7 +54,7 @@ impl<'a, F: Facts> Proposal<'a, F> {
     {
         (0..32).all(|x| {
             let wanted = if x == variable {
-                birthplace as u16
+                u16::from(birthplace)
             } else {
                 self.entry(context, x)
             };
