@@ -8,6 +8,7 @@ use Rattle.faults.specs.declared.fault.Fault.TheVariants.{MemoryLength}
 use Rattle.terms.specs.declared.term.Term.TheVariants.{Quote}
 use Rattle.terms.specs.Script.{Script, last, term, term_at, binds, binds_variable, cons_operands}
 use Rattle.terms.specs.WellFormed.{WellFormed}
+use Rattle.terms.proofs.Bound.{is_bound}
 use Rattle.terms.proofs.Nesting.{binder_label, body_binds}
 use Rattle.facts.specs.Words.{bit}
 use Rattle.facts.proofs.Firsts.{holds_parts}
@@ -70,10 +71,6 @@ before_ok : (a b : Result (Unit {0}) Fault) → before a b ≡ Ok tt → (a ≡ 
 before_ok (Ok u) b e = (refl, e)
 before_ok (Err f) b e = cc
 
-bound_is : (o : Option ℕ) (x : ℕ) → binds_variable o x ≡ true → o ≡ Some x
-bound_is None x e = absurd (both_ways false refl e)
-bound_is (Some y) x e = ap Some (eqb-true _ _ e)
-
 some_operands : (o : Option (ℕ × ℕ)) → is_some o ≡ true → (a : ℕ) × (b : ℕ) × (o ≡ Some (a, b))
 some_operands None e = absurd (both_ways false refl e)
 some_operands (Some q) e = (q.0, q.1, refl)
@@ -123,7 +120,7 @@ module _ (p : Script) (t : Tables) where
         few_contexts = m.2;
         outermost = λ x. ⊎_elim (λ l. eqb-true _ _ (every_at 32 (λ y. eqb (entry t 0 y) 0) (⊎_elim (λ z. absurd (omega (arith, ltb-true 0 0 z))) (λ z. z) (or_cases (ltb 0 0) (zero_row t 0) (row 0 (omega (arith, m.1))).0)) x l)) (λ l. sym (entry_past t 0 x l)) (cases_lt x 32);
         entries = λ k x. ⊎_elim
-            (λ h. ⊎_elim (λ l. ⊎_elim (λ z. inl (eqb-true _ _ z)) (λ z. inr (bound_is _ _ z)) (or_cases (eqb (entry t k x) 0) (binds_variable (binds p (entry t k x)) x) (every_at 32 (entry_right p t k) (row k h).1 x l))) (λ l. inl (sym (entry_past t k x l))) (cases_lt x 32))
+            (λ h. ⊎_elim (λ l. ⊎_elim (λ z. inl (eqb-true _ _ z)) (λ z. inr (is_bound _ _ z)) (or_cases (eqb (entry t k x) 0) (binds_variable (binds p (entry t k x)) x) (every_at 32 (entry_right p t k) (row k h).1 x l))) (λ l. inl (sym (entry_past t k x l))) (cases_lt x 32))
             (λ h. inl (entry_beyond t w k x h)) (cases_lt k (contexts t));
         apart = λ j k l h. not-true _ (every_at k (λ i. not (same_rows t i k)) (row k h).2 j l);
         listed_labels = λ l k h. ((may l k h).0, (may l k h).1);
