@@ -4,6 +4,7 @@ ghost use Rattle.facts.specs.Lists.{in_list, in_order, list_rule, Rises, Place};
 use crate::table::{Facts, SETS, member_number};
 use faults::Fault;
 
+// a cast, since `From` is not const
 const SPAN: u32 = SETS as u32;
 
 const LONGEST: usize = 8191;

@@ -7,6 +7,7 @@ use faults::Fault;
 // words of a set
 const ROW: usize = 72;
 
+// words of a table; a cast, since `From` is not const
 pub const WORDS: usize = ROW * SETS as usize;
 
 // 72 words for each set, lent by the caller.
