@@ -11,7 +11,7 @@ mod notation;
 mod scripts;
 mod verdicts;
 
-use crate::cases::{Session, Tally};
+use crate::cases::{Failure, Session, Tally};
 use crate::lines::Mistake;
 use std::fs::File;
 use std::io::{BufRead, BufReader, Read};
@@ -46,7 +46,6 @@ impl<'a> Replay<'a> {
             match text {
                 Ok(text) => self.reply(text.as_str())?,
                 Err(e) if matches!(e.kind(), io::ErrorKind::InvalidData) => {
-                    self.session.break_off();
                     self.complain(Mistake::Garbled)?;
                 }
                 Err(_) => return self.complain(Mistake::Unreadable),
@@ -56,17 +55,20 @@ impl<'a> Replay<'a> {
     }
 
     fn reply(&mut self, line: &str) -> io::Result<()> {
-        match self.session.reply(line)? {
-            None => Ok(()),
-            Some(Ok(answer)) => {
+        match self.session.reply(line) {
+            Ok(None) => Ok(()),
+            Ok(Some(answer)) => {
                 self.tally.command(&answer);
                 println!(self.rt; "{answer}")
             }
-            Some(Err(mistake)) => self.complain(mistake),
+            Err(Failure::Mistake(mistake)) => self.complain(mistake),
+            Err(Failure::NoMemory(error)) => Err(error.into()),
         }
     }
 
+    // tells a mistake, and leaves the case
     fn complain(&mut self, mistake: Mistake<'_>) -> io::Result<()> {
+        self.session.break_off();
         self.tally.error();
         println!(self.rt; "error {}:{}: {mistake}", self.source, self.line)
     }
@@ -83,7 +85,7 @@ fn replay_file(rt: &HostRuntime, tally: &mut Tally, name: &str) -> io::Result<()
 }
 
 fn main(rt: HostRuntime) -> io::Result<()> {
-    let mut tally = Tally::new();
+    let mut tally = Tally::default();
     let mut names = env::args(&rt)?.skip(1).peekable();
     if names.peek().is_none() {
         Replay::new(&rt, &mut tally, "stdin").run(rt.stdin())?;

@@ -2,7 +2,6 @@ use crate::drafts::Entered;
 use crate::entries::TableKind;
 use crate::findings::Findings;
 use crate::inquiries::{Listing, StoreKind};
-use crate::lines::Mistake;
 use crate::scripts::Said;
 use crate::verdicts::Verdict;
 use std::fmt;
@@ -16,9 +15,6 @@ pub(crate) enum Answer<'a> {
     Entered(Entered),
     Verdict(Verdict),
 }
-
-// What is said to a command.
-pub(crate) type Reply<'a> = Result<Answer<'a>, Mistake<'a>>;
 
 impl fmt::Display for Answer<'_> {
     fn fmt<W: fmt::Write>(&self, f: &mut fmt::Formatter<W>) -> fmt::Result {

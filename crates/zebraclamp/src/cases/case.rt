@@ -1,10 +1,12 @@
-use crate::cases::answer::{Answer, Reply};
+use crate::cases::answer::Answer;
 use crate::cases::command::Command;
+use crate::cases::failure::Failure;
 use crate::drafts::Draft;
+use crate::inquiries::find;
 use crate::lines::{Mistake, Words};
 use crate::scripts::Script;
 use crate::verdicts::judge;
-use std::alloc::{AllocError, Global};
+use std::alloc::Global;
 
 // What has been said in one case.
 #[derive(Drop)]
@@ -23,36 +25,27 @@ impl Case {
         }
     }
 
-    // carries out the command of a line that has words
-    pub(crate) fn obey<'a>(&mut self, words: &mut Words<'a>) -> Result<Reply<'a>, AllocError> {
-        match Command::read(words) {
-            Ok(command) => self.carry_out(command),
-            Err(mistake) => Ok(Err(mistake)),
-        }
+    // carries out the command of this name, whose other words are these
+    pub(crate) fn obey<'a>(
+        &mut self,
+        name: &'a str,
+        words: &mut Words<'a>,
+    ) -> Result<Answer<'a>, Failure<'a>> {
+        let command = Command::read(name, words)?;
+        self.carry_out(command)
     }
 
-    fn carry_out(&mut self, command: Command) -> Result<Reply<'static>, AllocError> {
+    fn carry_out(&mut self, command: Command) -> Result<Answer<'static>, Failure<'static>> {
         match command {
-            Command::Say(saying) => {
-                let said = self.script.carry_out(saying)?;
-                Ok(Ok(Answer::Said(said)))
-            }
+            Command::Say(saying) => Ok(Answer::Said(self.script.carry_out(saying)?)),
             Command::Owners(inquiry) => {
-                let Some(findings) = self.script.owners(self.heap, inquiry)? else {
-                    return Ok(Err(Mistake::NoProgram));
-                };
-                Ok(Ok(Answer::Owners(findings)))
+                let program = self.script.made().ok_or(Mistake::NoProgram)?;
+                Ok(Answer::Owners(find(self.heap, program, inquiry)?))
             }
-            Command::Enter(entry) => {
-                let entered = self.draft.carry_out(entry)?;
-                Ok(Ok(Answer::Entered(entered)))
-            }
+            Command::Enter(entry) => Ok(Answer::Entered(self.draft.carry_out(entry)?)),
             Command::Ask(question) => {
-                let Some(program) = self.script.made() else {
-                    return Ok(Err(Mistake::NoProgram));
-                };
-                let verdict = judge(program, &self.draft, question)?;
-                Ok(Ok(Answer::Verdict(verdict)))
+                let program = self.script.made().ok_or(Mistake::NoProgram)?;
+                Ok(Answer::Verdict(judge(program, &self.draft, question)?))
             }
         }
     }

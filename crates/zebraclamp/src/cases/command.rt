@@ -14,9 +14,8 @@ pub(crate) enum Command {
 }
 
 impl Command {
-    // the command of a line that has words
-    pub(crate) fn read<'a>(words: &mut Words<'a>) -> Result<Command, Mistake<'a>> {
-        let name = words.take().unwrap_or("");
+    // the command of this name, whose other words are these
+    pub(crate) fn read<'a>(name: &'a str, words: &mut Words<'a>) -> Result<Command, Mistake<'a>> {
         let command = match name {
             "symbols" => Saying::read_symbols(words).map(Command::Say),
             "term" => Saying::read_term(words).map(Command::Say),

@@ -1,9 +1,10 @@
 ghost use Rattle.std.specs.Prelude.{◌≡◌, None};
 
-use crate::cases::answer::{Answer, Reply};
+use crate::cases::answer::Answer;
 use crate::cases::case::Case;
+use crate::cases::failure::Failure;
 use crate::lines::{Expected, Words};
-use std::alloc::{AllocError, Global};
+use std::alloc::Global;
 
 // The case under way in one source of lines: none from a mistake on until the next begins.
 #[derive(Drop)]
@@ -22,32 +23,21 @@ impl Session {
     }
 
     // Nothing is said to a line without words, nor to a command where no case is under way.
-    pub(crate) fn reply<'a>(&mut self, line: &'a str) -> Result<Option<Reply<'a>>, AllocError> {
+    pub(crate) fn reply<'a>(&mut self, line: &'a str) -> Result<Option<Answer<'a>>, Failure<'a>> {
         let mut words = Words::of(line);
         if words.accept("case") {
-            return Ok(Some(self.begin(&mut words)));
+            return self.begin(&mut words).map(Some);
         }
-        let (Some(_), Some(case)) = (words.ahead(), &mut self.case) else {
+        let (Some(name), Some(case)) = (words.take(), &mut self.case) else {
             return Ok(None);
         };
-        let reply = case.obey(&mut words)?;
-        if reply.is_err() {
-            self.break_off();
-        }
-        Ok(Some(reply))
+        case.obey(name, &mut words).map(Some)
     }
 
-    fn begin<'a>(&mut self, words: &mut Words<'a>) -> Reply<'a> {
-        match read_name(words) {
-            Ok(name) => {
-                self.case = Some(Case::new(self.heap));
-                Ok(Answer::Case { name })
-            }
-            Err(expected) => {
-                self.break_off();
-                Err(words.mistake(expected))
-            }
-        }
+    fn begin<'a>(&mut self, words: &mut Words<'a>) -> Result<Answer<'a>, Failure<'a>> {
+        let name = read_name(words).map_err(|expected| words.mistake(expected))?;
+        self.case = Some(Case::new(self.heap));
+        Ok(Answer::Case { name })
     }
 
     // leaves the case, as a mistake does

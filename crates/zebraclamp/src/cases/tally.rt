@@ -2,7 +2,7 @@ use crate::cases::answer::Answer;
 use std::fmt;
 
 // How many cases, commands and errors there were.
-#[derive(Clone, Copy)]
+#[derive(Clone, Copy, Default)]
 pub(crate) struct Tally {
     cases: u64,
     commands: u64,
@@ -10,14 +10,6 @@ pub(crate) struct Tally {
 }
 
 impl Tally {
-    pub(crate) fn new() -> Tally {
-        Tally {
-            cases: 0,
-            commands: 0,
-            errors: 0,
-        }
-    }
-
     pub(crate) fn error(&mut self) {
         self.errors = self.errors.saturating_add(1);
     }

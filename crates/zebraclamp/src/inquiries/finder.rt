@@ -31,30 +31,17 @@ pub(crate) fn find(
 
 impl Finder<'_> {
     fn over(&self, kind: StoreKind) -> Result<Finding<Listing>, AllocError> {
+        let count = usize::from(self.inquiry.records);
         match kind {
-            StoreKind::Deep => self.over_deep(),
-            StoreKind::Shallow => self.over_shallow(),
+            StoreKind::Deep => {
+                let mut records = vec![in self.heap; Binding::default(); count]?;
+                self.over_store(&mut Deep::over(records.as_mut_slice()))
+            }
+            StoreKind::Shallow => {
+                let mut trail = vec![in self.heap; Saved::default(); count]?;
+                self.over_store(&mut Shallow::over(trail.as_mut_slice()))
+            }
         }
-    }
-
-    fn over_deep(&self) -> Result<Finding<Listing>, AllocError> {
-        let blank = Binding {
-            variable: 0,
-            thing: 0u8,
-            birthplace: 0,
-        };
-        let mut records = vec![in self.heap; blank; usize::from(self.inquiry.records)]?;
-        self.over_store(&mut Deep::over(records.as_mut_slice()))
-    }
-
-    // beside `over_deep`: one function over both would need a trait for the records and the store made of them, and be longer
-    fn over_shallow(&self) -> Result<Finding<Listing>, AllocError> {
-        let blank: Saved<u8> = Saved {
-            variable: 0,
-            covered: None,
-        };
-        let mut trail = vec![in self.heap; blank; usize::from(self.inquiry.records)]?;
-        self.over_store(&mut Shallow::over(trail.as_mut_slice()))
     }
 
     // The memory is handed over full of 255, so that what is not written shows.

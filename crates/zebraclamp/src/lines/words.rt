@@ -24,10 +24,7 @@ pub(crate) struct Words<'a> {
 
 impl<'a> Words<'a> {
     pub(crate) fn of(line: &'a str) -> Words<'a> {
-        let said = match line.split_once('#') {
-            Some((front, _)) => front,
-            None => line,
-        };
+        let said = line.split_once('#').map_or(line, |(front, _)| front);
         Words {
             before: None,
             rest: said.split_whitespace().peekable(),
@@ -57,7 +54,7 @@ impl<'a> Words<'a> {
     pub(crate) fn accept(&mut self, word: &str) -> bool {
         let same = self.ahead() == Some(word);
         if same {
-            let _ = self.take();
+            self.take();
         }
         same
     }
@@ -72,10 +69,8 @@ impl<'a> Words<'a> {
         requires { F.IsAlwaysCallable read }
         ensures { IfOk result (λ x. (word : _) × F.post read word (Some x)) }
     {
-        let Some(x) = self.ahead().and_then(read) else {
-            return Err(Expected { what });
-        };
-        let _ = self.take();
+        let x = self.ahead().and_then(read).ok_or(Expected { what })?;
+        self.take();
         Ok(x)
     }
 

@@ -57,10 +57,11 @@ impl fmt::Display for Kind {
 
 // The kind of term that a word names; any number names itself.
 pub(crate) fn term_kind(word: &str) -> Option<u32> {
-    match TERMS.iter().position(|name| *name == word) {
-        Some(before) => Some(before as u32 + 1),
-        None => numeral(word),
-    }
+    (1..)
+        .zip(TERMS)
+        .find(|(_, name)| *name == word)
+        .map(|(number, _)| number)
+        .or_else(|| numeral(word))
 }
 
 // What follows a definition's kind.
@@ -70,7 +71,7 @@ pub(crate) enum Form {
     Input,
     // X ROOT
     Defvar,
-    // X Y ROOT
+    // X Y ROOT. The kind is a number and no enum, as `Kind` is.
     Whole { kind: u32 },
 }
 

@@ -1,11 +1,9 @@
 ghost use Rattle.std.specs.Prelude.{◌≡◌, [], ◌∷◌, ◌++◌, is_some, is_ok, IfOk, None, Err, vec_len, MatchResult};
-ghost use Rattle.std.specs.Option.{option_map};
+ghost use Rattle.std.specs.Option.{option_copied, option_map};
 ghost use Rattle.std.specs.Result.{result_ok};
 ghost use Rattle.terms.specs.Form.{program_of};
 ghost use Rattle.terms.specs.Model.{model};
 
-use crate::findings::Findings;
-use crate::inquiries::{Inquiry, Listing, StoreKind, find};
 use crate::scripts::said::Said;
 use crate::scripts::saying::Saying;
 use faults::Fault;
@@ -102,22 +100,11 @@ impl Script {
         })
     }
 
-    // none where no program is made
-    pub(crate) fn owners(
-        &self,
-        heap: Global,
-        how: Inquiry,
-    ) -> Result<Option<Findings<StoreKind, Listing>>, AllocError>
-        ensures { IfOk result (λ found. is_some found ≡ is_some self.now.program) }
-    {
-        match &self.program {
-            Some(program) => Ok(Some(find(heap, program, how)?)),
-            None => Ok(None),
-        }
-    }
-
     // the program made last; none before, and after a refusal
-    pub(crate) fn made(&self) -> Option<&Program> {
+    pub(crate) fn made(&self) -> Option<&Program>
+        ensures made { is_some result ≡ is_some self.now.program }
+        ensures which { option_copied result ≡ self.now.program }
+    {
         self.program.as_ref()
     }
 

@@ -1,5 +1,5 @@
 use crate::lines::{Expected, Words};
-use facts::SETS;
+use facts::WORDS;
 use std::fmt;
 
 // What is asked of the proposal that the draft makes.
@@ -26,7 +26,7 @@ pub(crate) struct Lengths {
 const WHOLE: Lengths = Lengths {
     rows: None,
     masks: 256,
-    words: 72 * SETS as usize,
+    words: WORDS,
 };
 
 impl Question {

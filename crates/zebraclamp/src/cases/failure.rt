@@ -1,0 +1,21 @@
+use crate::lines::Mistake;
+use std::alloc::AllocError;
+
+// Why a line has no answer: a mistake, which is told, or no memory, which ends the program.
+#[derive(Clone, Copy)]
+pub(crate) enum Failure<'a> {
+    Mistake(Mistake<'a>),
+    NoMemory(AllocError),
+}
+
+impl<'a> From<Mistake<'a>> for Failure<'a> {
+    fn from(mistake: Mistake<'a>) -> Failure<'a> {
+        Failure::Mistake(mistake)
+    }
+}
+
+impl From<AllocError> for Failure<'_> {
+    fn from(error: AllocError) -> Self {
+        Failure::NoMemory(error)
+    }
+}
