@@ -1,8 +1,13 @@
+ghost use Rattle.std.specs.Prelude.{◌≡◌, ◌↔◌, IfOk, IsErrOf, IsSome, None};
+ghost use Rattle.zebraclamp.specs.declared.cases.failure.Failure.{Failure};
+ghost use Rattle.zebraclamp.specs.declared.lines.mistake.Mistake.{Mistake};
+
 use crate::cases::answer::Answer;
 use crate::cases::command::Command;
 use crate::cases::failure::Failure;
 use crate::drafts::Draft;
-use crate::inquiries::find;
+use crate::findings::Findings;
+use crate::inquiries::{Inquiry, Listing, StoreKind, find};
 use crate::lines::{Mistake, Words};
 use crate::scripts::Script;
 use crate::verdicts::judge;
@@ -38,15 +43,20 @@ impl Case {
     fn carry_out(&mut self, command: Command) -> Result<Answer<'static>, Failure<'static>> {
         match command {
             Command::Say(saying) => Ok(Answer::Said(self.script.carry_out(saying)?)),
-            Command::Owners(inquiry) => {
-                let program = self.script.made().ok_or(Mistake::NoProgram)?;
-                Ok(Answer::Owners(find(self.heap, program, inquiry)?))
-            }
+            Command::Owners(inquiry) => Ok(Answer::Owners(self.owners(inquiry)?)),
             Command::Enter(entry) => Ok(Answer::Entered(self.draft.carry_out(entry)?)),
             Command::Ask(question) => {
                 let program = self.script.made().ok_or(Mistake::NoProgram)?;
                 Ok(Answer::Verdict(judge(program, &self.draft, question)?))
             }
         }
+    }
+
+    fn owners(&self, inquiry: Inquiry) -> Result<Findings<StoreKind, Listing>, Failure<'static>>
+        ensures found { IfOk result (λ _. IsSome self.now.script.program) }
+        ensures none { IsErrOf result (Failure.Mistake Mistake.NoProgram) ↔ (self.now.script.program ≡ None) }
+    {
+        let program = self.script.made().ok_or(Mistake::NoProgram)?;
+        Ok(find(self.heap, program, inquiry)?)
     }
 }

@@ -40,7 +40,7 @@ impl Session {
         Ok(Answer::Case { name })
     }
 
-    // leaves the case, as a mistake does
+    // leaves the case, after a mistake
     pub(crate) fn break_off(&mut self)
         ensures { self.new.case ≡ None }
     {

@@ -71,7 +71,7 @@ pub(crate) enum Form {
     Input,
     // X ROOT
     Defvar,
-    // X Y ROOT. The kind is a number and no enum, as `Kind` is.
+    // X Y ROOT. The kind is no enum, as at `Kind`: any number can be handed in, right or wrong.
     Whole { kind: u32 },
 }
 
