@@ -126,6 +126,7 @@ impl<'a, S: Store<Thing = u8>> Walk<'a, S> {
     {
         for label in (1..=self.program.last()).rev() {
             if let Some(owner) = self.visit(label)? {
+                // a cast: by `usize::from` the proof does not close
                 owners[label as usize] = owner.binder;
                 captured[label as usize] = u8::from(owner.captured);
             }

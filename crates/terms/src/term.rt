@@ -99,7 +99,7 @@ impl TryFrom<RawTerm> for Term {
     }
 }
 
-// Nil quoted, which stands wherever there is no term.
+// Nil quoted, which stands wherever there is no term. By hand, as below: a derive takes a case without fields.
 impl Default for Term {
     ghost is_default = { λ t. t ≡ Quote 0 };
 

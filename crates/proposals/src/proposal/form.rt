@@ -47,6 +47,7 @@ pub(crate) struct Inspection<'a, 'b, F> {
 }
 
 impl<'a, 'b, F: Facts> Inspection<'a, 'b, F> {
+    // Three checks with a loop each: one function over them, with what to try and which fault to make, would be no shorter.
     pub(crate) fn check_rows(&self) -> Result<(), Fault>
         ensures { result ≡ rows_verdict (script self.now) (inspected F.members self.now) }
     {
