@@ -51,7 +51,11 @@ mod tests {
 
     #[test]
     fn deep_store(rt: HostRuntime) {
-        let mut records = [Binding::<u8>::default(); 3];
+        let mut records = [Binding {
+            variable: 0,
+            thing: 0u8,
+            birthplace: 0,
+        }; 3];
         let mut store = Deep::over(&mut records);
         binds(&rt, &mut store);
         refuses(&rt, &mut store);
@@ -59,7 +63,11 @@ mod tests {
 
     #[test]
     fn shallow_store(rt: HostRuntime) {
-        let mut trail = [Saved::<u8>::default(); 3];
+        let blank: Saved<u8> = Saved {
+            variable: 0,
+            covered: None,
+        };
+        let mut trail = [blank; 3];
         let mut store = Shallow::over(&mut trail);
         binds(&rt, &mut store);
         refuses(&rt, &mut store);
@@ -87,7 +95,11 @@ mod tests {
             row(6, 2, 1, 3),
         ];
         let program = Program::make(&terms, 4, &[])?;
-        let mut records = [Binding::<u8>::default(); 255];
+        let mut records = [Binding {
+            variable: 0,
+            thing: 0u8,
+            birthplace: 0,
+        }; 255];
         let mut store = Deep::over(&mut records);
         let mut owners = [9u8; 256];
         let mut captured = [9u8; 256];
