@@ -17,6 +17,7 @@ pub struct ListTable<'a> {
 }
 
 // A table with no facts: `over(numbers).unwrap_or_default()` is one where the numbers are refused.
+// By hand: a derive serves no struct with a ghost field.
 impl Default for ListTable<'_> {
     ghost is_default = { λ t. t.numbers.now ≡ [] };
 

@@ -40,6 +40,7 @@ impl<'a> Facts for WordTable<'a> {
     ghost members = { λ t. in_words t.words.now };
 
     fn has(&self, set: u16, fact: u16) -> bool {
+        // `is_some_and` was tried: the proof does not close
         let Some(n) = member_number(set, fact) else {
             return false;
         };

@@ -65,11 +65,7 @@ impl Table {
     fn ends_below(&self, child: u8, next: u8) -> Option<u8>
         ensures { result ≡ ends_below (first_at (terms_in self.now.nodes.items)) child next }
     {
-        if child > 0 && next.checked_sub(1) == Some(child) {
-            Some(self.first(child))
-        } else {
-            None
-        }
+        (child > 0 && next.checked_sub(1) == Some(child)).then(|| self.first(child))
     }
 
     // Reads every definition, and refuses those that break the rules.

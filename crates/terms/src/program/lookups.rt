@@ -36,7 +36,7 @@ impl Program {
         self.table.node(label).map(|node| node.term)
     }
 
-    // The first label of a term's span; 0 where no term is.
+    // The first label of a term's span; 0 where no term is, as the definition has it.
     pub fn first(&self, label: u8) -> u8
         ensures { result ≡ first (model self.now) label }
     {

@@ -44,6 +44,7 @@ impl Draft {
                 Ok(Entered::Listed { label, bits })
             }
             Entry::Fact { set, fact } => {
+                // not by `member_number`: both are known to be numbers, and it answers an Option
                 self.facts
                     .insert(u32::from(SETS) * u32::from(set.0) + u32::from(fact.0))?;
                 Ok(Entered::Fact { set, fact })
