@@ -8,17 +8,17 @@ use Rattle.facts.proofs.Firsts.{holds_parts}
 all_none : (p : ℕ → Bool) (from n : ℕ) → ((k : ℕ) → from ≤ k → p k ≡ false) → all_of p from n ≡ []
 unfolding all_of
 all_none p from zero none = refl
-all_none p from (suc n) none = cond-false _ _ _ (none from (omega arith)) ∙ all_none p (suc from) n (λ k l. none k (omega arith))
+all_none p from (suc n) none = cond-false _ _ _ (none from (omega arith)) ∙ all_none p (from + 1) n (λ k l. none k (omega arith))
 
 all_first : (p : ℕ → Bool) (from n f : ℕ) → from ≤ f → f < from + n → p f ≡ true → ((k : ℕ) → from ≤ k → k < f → p k ≡ false)
     → all_of p from n ≡ f ∷ all_of p (f + 1) (from + n - (f + 1))
 unfolding all_of
 all_first p from zero f lo hi t before = absurd (omega arith)
 all_first p from (suc n) f lo hi t before =
-    ⊎_elim (λ e. let m : from + suc n - (f + 1) ≡ n = omega arith in let s : f + 1 ≡ suc from = omega arith in cond-true _ _ _ (ap p e ∙ t) ∙ rw (m, s, e))
+    ⊎_elim (λ e. let m : from + suc n - (f + 1) ≡ n = omega arith in let s : f + 1 ≡ from + 1 = omega arith in cond-true _ _ _ (ap p e ∙ t) ∙ rw (m, s, e))
     (λ d. let l : from < f = omega arith in
-    let m : from + suc n - (f + 1) ≡ suc from + n - (f + 1) = omega arith in
-    cond-false _ _ _ (before from (omega arith) l) ∙ all_first p (suc from) n f l (omega arith) t (λ k a b. before k (omega arith) b) ∙ rw m)
+    let m : from + suc n - (f + 1) ≡ from + 1 + n - (f + 1) = omega arith in
+    cond-false _ _ _ (before from (omega arith) l) ∙ all_first p (from + 1) n f (omega arith) (omega arith) t (λ k a b. before k (omega arith) b) ∙ rw m)
     (cases_eq from f)
 
 -- what is left of a set's facts, at an answer of next
@@ -38,22 +38,24 @@ module _ (p q : ℕ → Bool) where
   all_true from zero e k lo hi t = absurd (omega arith)
   all_true from (suc n) e k lo hi t =
       ⊎_elim (λ y. let a = and_parts (q from) _ (rw y at e) in
-      ⊎_elim (λ same. ap q (sym same) ∙ a.0) (λ d. all_true (suc from) n a.1 k (omega arith) (omega arith) t) (cases_eq from k))
-      (λ y. ⊎_elim (λ same. absurd (both_ways (p from) y (ap p same ∙ t))) (λ d. all_true (suc from) n (rw y at e) k (omega arith) (omega arith) t) (cases_eq from k))
+      ⊎_elim (λ same. ap q (sym same) ∙ a.0) (λ d. all_true (from + 1) n a.1 k (omega arith) (omega arith) t) (cases_eq from k))
+      (λ y. ⊎_elim (λ same. absurd (both_ways (p from) y (ap p same ∙ t))) (λ d. all_true (from + 1) n (rw y at e) k (omega arith) (omega arith) t) (cases_eq from k))
       (cases_Bool (p from))
 
   true_all : (from n : ℕ) → ((k : ℕ) → p k ≡ true → q k ≡ true) → list_all q (all_of p from n) ≡ true
   unfolding all_of
   true_all from zero all = refl
   true_all from (suc n) all =
-      ⊎_elim (λ y. rw y (and_from _ _ (all from y) (true_all (suc from) n all))) (λ y. rw y (true_all (suc from) n all)) (cases_Bool (p from))
+      ⊎_elim (λ y. rw y (and_from _ _ (all from y) (true_all (from + 1) n all))) (λ y. rw y (true_all (from + 1) n all)) (cases_Bool (p from))
 
   -- the first of those that q takes
   pub find_first : (from n : ℕ) → find q (all_of p from n) ≡ first_of (λ k. p k && q k) from n
   unfolding all_of first_of
   find_first from zero = refl
   find_first from (suc n) =
-      ⊎_elim (λ y. rw y (ap (λ (r : Option ℕ). cond (q from) (Some from) r) (find_first (suc from) n))) (λ y. rw y (find_first (suc from) n)) (cases_Bool (p from))
+      let e : from + 1 ≡ suc from = omega arith in
+      let rest = find_first (from + 1) n ∙ ap (λ m. first_of (λ k. p k && q k) m n) e in
+      ⊎_elim (λ y. rw y (ap (λ (r : Option ℕ). cond (q from) (Some from) r) rest)) (λ y. rw y rest) (cases_Bool (p from))
 
 pub within_all : (h : ℕ → ℕ → Bool) (a b : ℕ) → Decides (list_all (holds h b) (all_of (holds h a) 0 4608)) (Within h a b)
 within_all h a b =

@@ -1,5 +1,6 @@
 -- A fact table means a set of facts for each set number: h s f says whether set s holds fact f.
-use Rattle.std.specs.Prelude.{◌≡◌, ℕ, zero, suc, ◌+◌, ◌-◌, ◌*◌, ◌<◌, ◌≤◌, ◌⊎◌, Bool, true, false, cond, ◌&&◌, List, [], ◌∷◌, Some, None, Option, nat_lt}
+use Rattle.std.specs.Prelude.{◌≡◌, ℕ, zero, suc, ◌+◌, ◌-◌, ◌*◌, ◌<◌, ◌≤◌, ◌⊎◌, Bool, true, false, cond, ◌&&◌, List, filter, Some, None, Option, nat_lt}
+use Rattle.std.specs.List.{range_with_len}
 
 -- Sets and facts have numbers below 4,608. A set number above 4,607 gets no and none, whatever h says there, and so does a fact.
 abbrev pub holds : (ℕ → ℕ → Bool) → ℕ → ℕ → Bool
@@ -15,10 +16,9 @@ unfoldable pub first_of : (ℕ → Bool) → ℕ → ℕ → Option ℕ
 first_of p from zero = None
 first_of p from (suc n) = cond (p from) (Some from) (first_of p (suc from) n)
 
--- all of them that p takes, in rising order
+-- all of them that p takes, in rising order (shut as well)
 unfoldable pub all_of : (ℕ → Bool) → ℕ → ℕ → List ℕ
-all_of p from zero = []
-all_of p from (suc n) = cond (p from) (from ∷ all_of p (suc from) n) (all_of p (suc from) n)
+all_of p from n = filter p (range_with_len from n)
 
 -- The smallest fact of set s from a given number on, or none.
 abbrev pub next_of : (ℕ → ℕ → Bool) → ℕ → ℕ → Option ℕ

@@ -70,7 +70,7 @@ pub record Worked : Type 0 where
       ≡ Plain ∷ Plain ∷ Plain ∷ Plain ∷ Plain ∷ Plain ∷ Plain ∷ Read 4 0 (value.Function 2) ∷ Plain ∷ Plain ∷ Plain ∷ Read 2 6 (value.Number 2) ∷ Plain ∷ Plain ∷ Ended (value.Number 2) ∷ []
   -- the car of nil stops with the label of the car
   pub stopped : answers_of car_of_nil unmarked (Start ∷ Run 100 ∷ []) ≡ Ok Done ∷ Ok (Ran 3 (Stopped (NotAPair 2))) ∷ []
-  -- an input is fed, read and assigned at the top level; each refusal has its reason
+  -- an input is fed, and read at the top level; the row ends with the value that the setq gives; each refusal has its reason
   pub fed : answers_of counting_up unmarked (Feed 3 1 ∷ Step ∷ Feed 2 7 ∷ Start ∷ Start ∷ Feed 3 1 ∷ Run 3 ∷ Step ∷ Run 0 ∷ Run 9 ∷ Run 0 ∷ [])
       ≡ Err NotAnInput ∷ Err NoRow ∷ Ok Done ∷ Ok Done ∷ Err RowUnderWay ∷ Err RowUnderWay ∷ Ok (Ran 3 Plain) ∷ Ok (Stepped (Read 1 0 (value.Number 7))) ∷ Ok (Ran 0 Plain) ∷ Ok (Ran 5 (Ended (value.Number 8))) ∷ Err NoRow ∷ []
   pub voided : answers_of void unmarked (Start ∷ Run 100 ∷ []) ≡ Ok Done ∷ Ok (Ran 1 (Stopped (VoidVariable 1))) ∷ []

@@ -4,7 +4,7 @@
 ghost use Rattle.machine.specs.Laws.{RefusedSame, AlwaysOrderly, NeverMore, NeverDeclined, ScopesClose, ReadsNewest, AssignsNewest, RunsAreSteps, BeginsByRule};
 ghost use Rattle.machine.specs.Worked.{Worked};
 
-// A run never has more bindings than frames, so no call of a well-formed script is declined by a store whose limit is 255, the most frames.
+// A run never has more bindings than frames, so no call of a well-formed script is declined by a store whose limit is 255 or more, 255 being the most frames.
 fn store_suffices()
     ensures orderly { AlwaysOrderly }
     ensures bindings { NeverMore }
