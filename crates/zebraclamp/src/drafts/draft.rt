@@ -81,9 +81,9 @@ impl Draft {
 
     // the rows, cut off or filled up with 0 where another length is asked
     pub(crate) fn rows(&self, len: Option<usize>) -> Result<Vec<u16>, AllocError> {
-        let mut rows = self.rows.clone()?;
-        rows.resize(len.unwrap_or(self.rows.len()), 0)?;
-        Ok(rows)
+        (0..len.unwrap_or(self.rows.len()))
+            .map(|i| self.rows.get(i).copied().unwrap_or(0))
+            .collect(self.heap)
     }
 
     // the masks of labels 0 to 255, cut off or filled up with 0
@@ -106,10 +106,8 @@ impl Draft {
 
     // the list table's numbers: the facts, rising, and then the other numbers
     pub(crate) fn list(&self) -> Result<Vec<u32>, AllocError> {
-        self.facts
-            .iter()
-            .chain(self.numbers.iter())
-            .copied()
-            .collect(self.heap)
+        let mut list: Vec<u32> = self.facts.iter().copied().collect(self.heap)?;
+        list.extend_from_slice(self.numbers.as_slice())?;
+        Ok(list)
     }
 }
