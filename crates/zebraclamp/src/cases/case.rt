@@ -1,4 +1,4 @@
-ghost use Rattle.std.specs.Prelude.{◌≡◌, ◌↔◌, IfOk, IsErrOf, IsSome, None};
+ghost use Rattle.std.specs.Prelude.{◌≡◌, ◌↔◌, IfOk, IfErr, IsErrOf, IsSome, None};
 ghost use Rattle.zebraclamp.specs.declared.cases.failure.Failure.{Failure};
 ghost use Rattle.zebraclamp.specs.declared.lines.mistake.Mistake.{Mistake};
 
@@ -55,6 +55,7 @@ impl Case {
     fn owners(&self, inquiry: Inquiry) -> Result<Findings<StoreKind, Listing>, Failure<'static>>
         ensures found { IfOk result (λ _. IsSome self.now.script.program) }
         ensures none { IsErrOf result (Failure.Mistake Mistake.NoProgram) ↔ (self.now.script.program ≡ None) }
+        ensures fails { IfErr result (λ failure. IsSome self.now.script.program → (error : _) × (failure ≡ Failure.NoMemory error)) }
     {
         let program = self.script.made().ok_or(Mistake::NoProgram)?;
         Ok(find(self.heap, program, inquiry)?)
