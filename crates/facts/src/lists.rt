@@ -16,7 +16,7 @@ pub struct ListTable<'a> {
     ghost rising: { Rises numbers.now },
 }
 
-// A table with no facts: `over(numbers).unwrap_or_default()` is one where the numbers are refused.
+// A table with no facts.
 // By hand: a derive serves no struct with a ghost field.
 impl Default for ListTable<'_> {
     ghost is_default = { λ t. t.numbers.now ≡ [] };
@@ -32,6 +32,13 @@ impl<'a> ListTable<'a> {
     {
         accepted(numbers)?;
         Ok(ListTable { numbers })
+    }
+
+    // The table that `over` makes, and where it refuses the numbers one with no facts.
+    pub fn over_or_empty(numbers: &'a [u32]) -> ListTable<'a>
+        ensures { MatchResult (list_rule numbers.now) (λ _. result.numbers.now ≡ numbers.now) (λ _. result.numbers.now ≡ []) }
+    {
+        ListTable::over(numbers).unwrap_or_default()
     }
 
     // the place of the first number that is not below n
