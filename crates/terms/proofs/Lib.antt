@@ -5,6 +5,7 @@ pub mod Progress
 pub mod Defined
 pub mod Makes
 pub mod Lookups
+pub mod Taken
 pub mod Bound
 pub mod Formed
 pub mod Nesting

@@ -1,10 +1,11 @@
 -- Reading a term out of memory.
-use Rattle.std.proofs.Common.{◌≡◌, ℕ, zero, suc, ◌<◌, ◌||◌, leb, List, [], ◌∷◌, map, length, get_or, Bor, Some, None, Option, unwrap_or, sym, refl, ap, ◌∙◌, inl, inr, arith}
+use Rattle.std.proofs.Common.{◌≡◌, ℕ, zero, suc, ◌+◌, ◌-◌, ◌<◌, Bool, ◌||◌, leb, List, [], ◌∷◌, map, length, get_or, take, drop, Bor, Some, None, Option, unwrap_or, sym, refl, ap, ◌∙◌, inl, inr, arith}
 use Rattle.std.specs.Prelude.{slice_get, option_map}
 use Rattle.std.specs.Option.{MatchOption}
 use Rattle.std.specs.Slice.{IsItemAt}
 use Rattle.std.specs.List.{list_any}
-use Rattle.std.proofs.lemmas.List.{length-map, get_or-map, get_or_past}
+use native.Mathlib.Nat.{sub-zero}
+use Rattle.std.proofs.lemmas.List.{length-map, get_or-map, get_or_past, drop_more}
 use Rattle.std.proofs.lemmas.Option.{slice_get-map, slice_get-get_or, slice_get_past, unwrap_or-slice_get}
 use Rattle.std.proofs.lemmas.Bool.{cases_lt, cond-true, cond-false, and_from, and_right, le-leb, lt-leb}
 use Rattle.terms.specs.declared.term.Term.{Term}
@@ -41,6 +42,20 @@ module _ (ns : List Node) where
       | inr ge ↦ (sym (slice_get-map (λ (n : Node). n.term) ns l) ∙ slice_get_past (terms_in ns) l ge
           ∙ sym (cond-false _ _ _ (and_right (leb 1 (suc l)) _ (lt-leb (suc l) (length (terms_in ns)) (omega arith)))))
     ]
+
+-- a part from the start
+pub front : {X : Type 0} (xs : List X) (n : ℕ) → take (n - 0) (drop 0 xs) ≡ take n xs
+front xs n = ap (λ k. take k xs) (sub-zero n)
+
+-- a turn of the search among definitions
+module _ (ds : List Definition) (i : ℕ) (d : Definition) (lt : i < length ds) where
+  pub parameter_turn : (b : ℕ) → defun_parameter ds b ≡ defun_parameter (drop i ds) b → (o : Option ℕ) → o ≡ parameter_for (get_or ds i d) b
+      → defun_parameter ds b ≡ or_else o (defun_parameter (drop (i + 1) ds) b)
+  parameter_turn b inv o e = inv ∙ ap (λ es. defun_parameter es b) (drop_more ds i d lt) ∙ ap (λ u. or_else u (defun_parameter (drop (i + 1) ds) b)) (sym e)
+
+  pub input_turn : (x : ℕ) → input_among ds x ≡ input_among (drop i ds) x → (o : Bool) → o ≡ takes_input (get_or ds i d) x
+      → input_among ds x ≡ (o || input_among (drop (i + 1) ds) x)
+  input_turn x inv o e = inv ∙ ap (λ es. input_among es x) (drop_more ds i d lt) ∙ ap (λ u. u || input_among (drop (i + 1) ds) x) (sym e)
 
 pub or_else_is : {X : Type 0} (o q r : Option X) → MatchOption o (r ≡ q) (λ x. r ≡ Some x) → r ≡ or_else o q
 or_else_is None q r e = e

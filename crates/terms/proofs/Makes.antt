@@ -1,5 +1,5 @@
 -- What the readings make.
-use Rattle.std.proofs.Common.{◌≡◌, ℕ, zero, suc, ◌+◌, ◌<◌, ◌≤◌, true, false, cond, ◌&&◌, leb, List, [], ◌∷◌, map, length, is_some, Some, None, Ok, Err, sym, refl, ap, ◌∙◌, subst, inl, inr, arith}
+use Rattle.std.proofs.Common.{◌≡◌, ℕ, zero, suc, ◌+◌, ◌<◌, ◌≤◌, true, false, cond, ◌&&◌, eqb, leb, List, [], ◌∷◌, map, length, is_some, Some, None, Ok, Err, sym, refl, ap, ◌∙◌, subst, inl, inr, arith}
 use Rattle.std.proofs.lemmas.List.{length-map}
 use Rattle.std.proofs.lemmas.Bool.{cases_Bool, cases_eq, cond-true, cond-false, and_parts, and_from, leb-true}
 use Rattle.faults.specs.declared.fault.Fault.{Fault}
@@ -12,7 +12,7 @@ use Rattle.terms.specs.Syntax.{decode}
 use Rattle.terms.specs.declared.table.Table.{Table}
 use Rattle.terms.specs.Script.{first_at}
 use Rattle.terms.specs.Table.{script_in}
-use Rattle.terms.specs.Form.{sizes_right, term_right, terms_right, script_right, well_formed, term_of, definition_of, script_of, wrong_from, all_decode, judged, program_of}
+use Rattle.terms.specs.Form.{sizes_right, term_right, terms_right, script_right, covers, well_formed, term_of, definition_of, script_of, wrong_from, all_decode, judged, program_of}
 use Rattle.terms.specs.Reading.{TermsRead, NamesWrong, defined_right, DefinitionsRead, DefinitionsWrong}
 
 wrong_none : (v : ℕ) (ts : List Term) (l : ℕ) (rs : List RawTerm) → wrong_from v ts l rs ≡ None → (m : ℕ) → l ≤ m → m < l + length rs → term_right v ts m ≡ true
@@ -42,6 +42,18 @@ sizes a v n h =
     let s2 = and_parts (leb 2 v) _ s1.1 in
     let s3 = and_parts (leb v 32) _ s2.1 in
     (leb-true 1 a s0.0, leb-true a 255 s1.0, leb-true 2 v s2.0, leb-true v 32 s3.0, leb-true n 31 s3.1)
+
+-- whether children or roots cover the labels does not depend on where first labels are kept
+covers_same : (f g : ℕ → ℕ) → ((c : ℕ) → f c ≡ g c) → (a : ℕ) (cs : List ℕ) (z : ℕ) → covers f a cs z ≡ covers g a cs z
+covers_same f g e a [] z = refl
+covers_same f g e a (c ∷ cs) z = ap (λ m. eqb m a && covers f (suc c) cs z) (e c) ∙ ap (λ b. eqb (g c) a && b) (covers_same f g e (suc c) cs z)
+
+-- the table was told how many symbols there are
+pub read_with : (rows : List RawTerm) (v w : ℕ) (table : Table) → w ≡ v → TermsRead rows w table → TermsRead rows v table
+read_with rows v w table e read = subst (λ u. TermsRead rows u table) e read
+
+pub wrong_with : (rows : List RawTerm) (v w : ℕ) (fault : Fault) → w ≡ v → NamesWrong rows w fault → NamesWrong rows v fault
+wrong_with rows v w fault e wrong = subst (λ u. NamesWrong rows u fault) e wrong
 
 module _ (rows : List RawTerm) (v : ℕ) (ds : List RawDefinition) where
   pub wrong_sizes : sizes_right (length rows) v (length ds) ≡ false → Err ProgramSizes ≡ program_of rows v ds
@@ -75,7 +87,7 @@ module _ (rows : List RawTerm) (v : ℕ) (ds : List RawDefinition) where
       wrong_definitions e w = ap Err w.1 ∙ sym (made_is ∙ cond-false _ _ _ w.0)
 
       module _ (definitions : List Definition) (defined : DefinitionsRead ds table definitions) where
-        script_is : script_in table.nodes.items table.symbols definitions ≡ script_of rows v ds
+        pub script_is : script_in table.nodes.items table.symbols definitions ≡ script_of rows v ds
         script_is = λ i. record { terms = read.read i; symbols = read.symbols i; definitions = defined.1 i }
 
         pub right_program : Ok (script_in table.nodes.items table.symbols definitions) ≡ program_of rows v ds

@@ -11,6 +11,9 @@ use Rattle.terms.specs.Script.{Script, last, term_at, term, first, spans, bound_
 use Rattle.terms.specs.Form.{definitions_right, roots}
 use Rattle.terms.specs.WellFormed.{Cover, WellFormed}
 
+never : {A : Type 0} {x : A} → None ≡ Some x → ⊥
+never e = absurd cc
+
 pub spans_in : (p : Script) (b l : ℕ) → first p b ≤ l → l ≤ b → spans p b l ≡ true
 unfolding spans
 spans_in p b l low high = and_from _ _ (le-leb (first p b) l low) (le-leb l b high)

@@ -1,8 +1,9 @@
 -- Where children begin, read from the last to the first, against the rule that they keep.
-use Rattle.std.proofs.Common.{◌≡◌, ℕ, suc, ◌<◌, ◌≤◌, Bool, true, false, cond, ◌&&◌, eqb, ltb, leb, List, [], ◌∷◌, ◌++◌, Some, None, Option, sym, refl, ap, ◌∙◌, subst, inl, inr, arith}
+use Rattle.std.proofs.Common.{◌≡◌, ℕ, suc, ◌<◌, ◌≤◌, Bool, true, false, cond, ◌&&◌, eqb, ltb, leb, List, [], ◌∷◌, ◌++◌, length, slice_index_or, Some, None, Option, sym, refl, ap, ◌∙◌, subst, inl, inr, arith}
 use Rattle.std.proofs.lemmas.Bool.{cond-true, cond-false, cases_Bool, and_parts, eqb-true, lt-ltb}
 use Rattle.terms.specs.Form.{chained, chained_from}
-use Rattle.terms.specs.Reading.{ends_below, joined, opening}
+use Rattle.terms.specs.Syntax.{present}
+use Rattle.terms.specs.Reading.{ends_below, passed, joined, opening}
 use Rattle.terms.proofs.Firsts.{step}
 
 joined_by : (g : ℕ → ℕ) (c d : ℕ) (ok : Bool) → joined g c (cond ok (Some (g d)) None) ≡ cond (leb 1 c && (eqb (suc c) (g d) && ok)) (Some (g c)) None
@@ -89,3 +90,17 @@ module _ (f : ℕ → ℕ) where
   pub onward_none : (cs : List ℕ) → onward f cs None ≡ None
   onward_none [] = refl
   onward_none (c ∷ cs) = ap (joined f c) (onward_none cs)
+
+-- one child more, if it is there
+passed_on : (f : ℕ → ℕ) (o : Option ℕ) (os : List (Option ℕ)) (l n : ℕ) → opening f (present os) l ≡ Some n → opening f (present (o ∷ os)) l ≡ passed f o n
+passed_on f None os l n e = e
+passed_on f (Some c) os l n e = ap (joined f c) e
+
+-- three places for children, from the last to the first
+pub opened : (f : ℕ → ℕ) (os : List (Option ℕ)) (l m n : ℕ) → length os ≡ 3 → passed f (slice_index_or os 2 None) l ≡ Some m → passed f (slice_index_or os 1 None) m ≡ Some n → opening f (present os) l ≡ passed f (slice_index_or os 0 None) n
+opened f [] l m n len third second = absurd (omega arith)
+opened f (a ∷ []) l m n len third second = absurd (omega arith)
+opened f (a ∷ b ∷ []) l m n len third second = absurd (omega arith)
+opened f (a ∷ b ∷ d ∷ []) l m n len third second =
+    passed_on f a (b ∷ d ∷ []) l n (passed_on f b (d ∷ []) l m (passed_on f d [] l l refl ∙ third) ∙ second)
+opened f (a ∷ b ∷ d ∷ e ∷ os) l m n len third second = absurd (omega arith)

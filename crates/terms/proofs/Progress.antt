@@ -1,6 +1,6 @@
 -- How far the reading of the rows has come.
-use Rattle.std.proofs.Common.{◌≡◌, ℕ, suc, ◌+◌, ◌<◌, Bool, cond, ◌&&◌, List, [], ◌∷◌, ◌++◌, map, length, get_or, take, drop, is_some, Some, None, unwrap_or, sym, ap, ◌∙◌, inl, inr, add-one, arith}
-use Rattle.std.proofs.lemmas.List.{get_or_past, get_or_append_left, map_more, get_or-map, drop_more, length-map, length-append, length-take-le, map-append, take-append-drop}
+use Rattle.std.proofs.Common.{◌≡◌, ℕ, suc, ◌+◌, ◌<◌, ◌≤◌, Bool, cond, ◌&&◌, List, [], ◌∷◌, ◌++◌, map, length, get_or, take, drop, replicate, is_some, Some, None, unwrap_or, sym, refl, ap, ◌∙◌, inl, inr, add-one, arith}
+use Rattle.std.proofs.lemmas.List.{get_or-replicate, get_or_past, get_or_append_left, map_more, get_or-map, drop_more, drop_all, take_all, length-map, length-append, length-take-le, map-append, take-append-drop}
 use Rattle.std.proofs.Math.Seq.{get_or-append_seam}
 use Rattle.std.proofs.lemmas.Bool.{cases_lt, cases_eq, cases_Bool, cond-true, cond-false}
 use Rattle.faults.specs.declared.fault.Fault.{Fault}
@@ -14,7 +14,7 @@ use Rattle.terms.specs.Syntax.{decode}
 use Rattle.terms.specs.Script.{term_at, first_at}
 use Rattle.terms.specs.Table.{terms_in, Begun}
 use Rattle.terms.specs.Form.{term_right, term_of, wrong_from}
-use Rattle.terms.specs.Reading.{with_first, read_term, next_read, NextRead, NextWrong, NamesWrong}
+use Rattle.terms.specs.Reading.{with_first, read_term, next_read, NextRead, NextWrong, NamesWrong, TermsRead}
 use Rattle.terms.proofs.Firsts.{first_zero, first_past, first_under}
 use Rattle.terms.proofs.Rows.{read_is}
 
@@ -69,6 +69,12 @@ pub record TermsSoFar (rows : List RawTerm) (v i : ℕ) (table : Table) : Type 0
   pub symbols : table.symbols ≡ v
   pub rest : wrong_from v (map term_of rows) 1 rows ≡ wrong_from v (map term_of rows) (suc i) (drop i rows)
 
+zeros : (c : ℕ) → ◌≡◌ {A = ℕ} (get_or (replicate 256 0) c 0) 0
+zeros c = elim (cases_lt c 256) [ inl h ↦ (get_or-replicate 256 c 0 0 h) | inr h ↦ (get_or_past (replicate 256 0) c 0 h) ]
+
+pub none_read : (rows : List RawTerm) (v : ℕ) (table : Table) → table.nodes.items ≡ [] → table.symbols ≡ v → TermsSoFar rows v 0 table
+none_read rows v table none is = record { read = ap terms_in none; symbols = is; rest = refl }
+
 module _ (rows : List RawTerm) (v i : ℕ) (table : Table) (d : RawTerm) (lt : i < length rows) (sofar : TermsSoFar rows v i table) where
   ts : List Term
   ts = map term_of rows
@@ -120,3 +126,10 @@ module _ (rows : List RawTerm) (v i : ℕ) (table : Table) (d : RawTerm) (lt : i
           rest = ahead ∙ cond-true right _ _ q ∙ ap (λ m. wrong_from v ts m (drop (i + 1) rows)) (ap suc (sym (add-one i)));
         })
   ]
+
+pub all_read : (rows : List RawTerm) (v i : ℕ) (table : Table) → length rows ≤ i → TermsSoFar rows v i table → TermsRead rows v table
+all_read rows v i table ge sofar = record {
+  right = sofar.rest ∙ ap (wrong_from v (map term_of rows) (suc i)) (drop_all i rows ge);
+  read = sofar.read ∙ ap (map term_of) (take_all i rows ge);
+  symbols = sofar.symbols;
+}

@@ -17,6 +17,11 @@ use Rattle.terms.specs.Form.{symbol_right, definition_right, term_of, definition
 abbrev pub ends_below : (ℕ → ℕ) → ℕ → ℕ → Option ℕ
 ends_below f c a = cond (nat_le 1 c && suc c == a) (Some (f c)) None
 
+-- the same, or a itself where there is no such label
+abbrev pub passed : (ℕ → ℕ) → Option ℕ → ℕ → Option ℕ
+passed f None a = Some a
+passed f (Some c) a = ends_below f c a
+
 abbrev pub joined : (ℕ → ℕ) → ℕ → Option ℕ → Option ℕ
 joined f c None = None
 joined f c (Some a) = ends_below f c a
@@ -32,6 +37,11 @@ with_first t a = record { term = t; first = a }
 abbrev pub beginning : Term → Option ℕ → Option Node
 beginning t None = None
 beginning t (Some a) = Some (with_first t a)
+
+-- a term that names symbols below v alone
+abbrev pub named : ℕ → Option Term → Option Term
+named v None = None
+named v (Some t) = cond (symbol_right v (symbol_of t)) (Some t) None
 
 abbrev pub term_read : (ℕ → ℕ) → ℕ → ℕ → Option Term → Option Node
 term_read f v l None = None

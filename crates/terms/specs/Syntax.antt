@@ -90,6 +90,12 @@ children (Cdr a) = a ∷ []
 children (Add a b) = a ∷ b ∷ []
 children (Same a b) = a ∷ b ∷ []
 
+-- the labels that are there
+abbrev pub present : List (Option ℕ) → List ℕ
+present [] = []
+present (None ∷ cs) = present cs
+present (Some c ∷ cs) = c ∷ present cs
+
 -- the symbol that a term quotes, or the variable that it names
 abbrev pub symbol_of : Term → Option ℕ
 symbol_of (Number n) = None

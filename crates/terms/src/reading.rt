@@ -1,9 +1,9 @@
 // Reading of rows: each is tested against the terms that stand in the table below it.
-ghost use Rattle.std.specs.Prelude.{◌≡◌, ◌<◌, ◌≤◌, length, MatchResult};
+ghost use Rattle.std.specs.Prelude.{◌≡◌, ◌<◌, ◌≤◌, [], length, MatchResult};
 ghost use Rattle.terms.specs.Script.{first_at};
-ghost use Rattle.terms.specs.Syntax.{children};
+ghost use Rattle.terms.specs.Syntax.{children, decode};
 ghost use Rattle.terms.specs.Table.{terms_in};
-ghost use Rattle.terms.specs.Reading.{ends_below, opening, read_term, read_definition, NextRead, NextWrong, TermsRead, NamesWrong, DefinitionsRead, DefinitionsWrong};
+ghost use Rattle.terms.specs.Reading.{named, ends_below, passed, opening, read_definition, NextRead, NextWrong, TermsRead, NamesWrong, DefinitionsRead, DefinitionsWrong};
 
 use crate::raw::{RawDefinition, RawTerm};
 use crate::table::{Node, Table};
@@ -13,18 +13,14 @@ use faults::Fault;
 
 impl Table {
     // Reads every row in the order of the labels, and refuses the first that is wrong.
-    pub(crate) fn read(rows: &[RawTerm], symbols: u8) -> Result<Table, Fault>
-        requires { length rows.now ≤ 255 }
-        ensures { MatchResult result (TermsRead rows.now symbols) (NamesWrong rows.now symbols) }
+    pub(crate) fn read(&mut self, rows: &[RawTerm]) -> Result<(), Fault>
+        requires { (self.old.nodes.items ≡ []) × (length rows.now ≤ 255) }
+        ensures { MatchResult result (λ _. TermsRead rows.now self.old.symbols self.new) (NamesWrong rows.now self.old.symbols) }
     {
-        let mut table = Table {
-            nodes: ArrayVec::new(),
-            symbols,
-        };
         for &row in rows {
-            table.read_term(row)?;
+            self.read_term(row)?;
         }
-        Ok(table)
+        Ok(())
     }
 
     // Reads the row of the next label.
@@ -33,32 +29,45 @@ impl Table {
         ensures { MatchResult result (λ _. NextRead self.old row self.new) (NextWrong self.old row) }
     {
         let label = self.last() + 1;
-        let node = self.term(row, label).ok_or(Fault::WrongTerm { label })?;
-        self.nodes.push(node);
+        let Some(term) = self.term(row) else {
+            return Err(Fault::WrongTerm { label });
+        };
+        let Some(first) = self.opening(term, label) else {
+            return Err(Fault::WrongTerm { label });
+        };
+        self.nodes.push(Node { term, first });
         Ok(())
     }
 
-    // The term that a row stands for at `label`, and its first label; none if it breaks the rules.
-    fn term(&self, row: RawTerm, label: u8) -> Option<Node>
-        ensures { result ≡ read_term (first_at (terms_in self.now.nodes.items)) self.now.symbols row label }
+    // The term that a row stands for, if it names symbols of the script alone.
+    fn term(&self, row: RawTerm) -> Option<Term>
+        ensures { result ≡ named self.now.symbols (decode row) }
     {
-        let term = Term::try_from(row).ok()?;
+        let term = Term::decode(row)?;
         if term.symbol().is_some_and(|symbol| symbol >= self.symbols) {
             return None;
         }
-        let first = self.opening(term, label)?;
-        Some(Node { term, first })
+        Some(term)
     }
 
     // Where the children begin that should end just below `label`; none if they do not.
     fn opening(&self, term: Term, label: u8) -> Option<u8>
         ensures { result ≡ opening (first_at (terms_in self.now.nodes.items)) (children term) label }
     {
-        let mut next = label;
-        for &child in term.children().iter().rev() {
-            next = self.ends_below(child, next)?;
+        let [first, second, third] = term.children();
+        let next = self.passed(third, label)?;
+        let next = self.passed(second, next)?;
+        self.passed(first, next)
+    }
+
+    // Where the child begins that should end just below `next`, or `next` itself where there is none.
+    fn passed(&self, child: Option<u8>, next: u8) -> Option<u8>
+        ensures { result ≡ passed (first_at (terms_in self.now.nodes.items)) child next }
+    {
+        match child {
+            None => Some(next),
+            Some(child) => self.ends_below(child, next),
         }
-        Some(next)
     }
 
     // The first label of `child`, if the child ends just below `next`.

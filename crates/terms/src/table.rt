@@ -1,4 +1,4 @@
-ghost use Rattle.std.specs.Prelude.{◌≡◌, length};
+ghost use Rattle.std.specs.Prelude.{◌≡◌, [], length};
 ghost use Rattle.terms.specs.Script.{first_at};
 ghost use Rattle.terms.specs.Table.{terms_in, node_at, Begun};
 
@@ -21,6 +21,16 @@ pub(crate) struct Table {
 }
 
 impl Table {
+    // No terms yet.
+    pub(crate) fn new(symbols: u8) -> Table
+        ensures { (result.nodes.items ≡ []) × (result.symbols ≡ symbols) }
+    {
+        Table {
+            nodes: ArrayVec::new(),
+            symbols,
+        }
+    }
+
     // The label of the last term; 0 where there is none.
     pub(crate) fn last(&self) -> u8
         ensures { result ≡ length self.now.nodes.items }
@@ -28,12 +38,11 @@ impl Table {
         self.nodes.len() as u8
     }
 
-    // The term with this label and its first label, if there is one.
+    // The term with this label and its first label, if there is one. At 0 the index wraps to one that no node has.
     pub(crate) fn node(&self, label: u8) -> Option<Node>
         ensures { result ≡ node_at self.now.nodes.items label }
     {
-        let index = label.checked_sub(1)?;
-        self.nodes.get(usize::from(index)).copied()
+        self.nodes.get(usize::from(label).wrapping_sub(1)).copied()
     }
 
     // The first label of a term's span; 0 where no term is.

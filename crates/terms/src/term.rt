@@ -4,10 +4,9 @@ ghost use Rattle.terms.specs.declared.term.Term.TheVariants.{Quote};
 ghost use Rattle.terms.specs.declared.term.Definition.TheVariants.{Input};
 ghost use Rattle.terms.specs.Form.{definition_right};
 ghost use Rattle.terms.specs.Script.{bound_by, lambda_variable, occurs, cons_operands, parameter_for, takes_input};
-ghost use Rattle.terms.specs.Syntax.{children, symbol_of, decode, of_kind, decode_definition, root_of};
+ghost use Rattle.terms.specs.Syntax.{children, present, symbol_of, decode, of_kind, decode_definition, root_of};
 
 use crate::raw::{RawDefinition, RawTerm};
-use arrayvec::ArrayVec;
 
 // A term, with its children by label.
 #[derive(Clone, Copy)]
@@ -81,21 +80,7 @@ impl TryFrom<RawTerm> for Term {
     ghost try_from_gives = { λ row r. result_ok r ≡ decode row };
 
     fn try_from(row: RawTerm) -> Result<Term, WrongForm> {
-        if row.kind == 1 {
-            return if row.b == 0 && row.c == 0 {
-                Ok(Term::Number(row.a))
-            } else {
-                Err(WrongForm)
-            };
-        }
-        let (Ok(a), Ok(b), Ok(c)) = (
-            u8::try_from(row.a),
-            u8::try_from(row.b),
-            u8::try_from(row.c),
-        ) else {
-            return Err(WrongForm);
-        };
-        Term::of_kind(row.kind, a, b, c).ok_or(WrongForm)
+        Term::decode(row).ok_or(WrongForm)
     }
 }
 
@@ -115,11 +100,13 @@ impl TryFrom<RawDefinition> for Definition {
     ghost try_from_gives = { λ row r. result_ok r ≡ decode_definition row };
 
     fn try_from(row: RawDefinition) -> Result<Definition, WrongForm> {
-        let (Ok(variable), Ok(y), Ok(root)) = (
-            u8::try_from(row.x),
-            u8::try_from(row.y),
-            u8::try_from(row.root),
-        ) else {
+        let Ok(variable) = u8::try_from(row.x) else {
+            return Err(WrongForm);
+        };
+        let Ok(y) = u8::try_from(row.y) else {
+            return Err(WrongForm);
+        };
+        let Ok(root) = u8::try_from(row.root) else {
             return Err(WrongForm);
         };
         match (row.kind, y, root) {
@@ -145,6 +132,29 @@ impl Default for Definition {
 }
 
 impl Term {
+    // The same as by `try_from`, without an error: reading goes over many rows, and an `Option` of a term is cheaper there than a `Result`.
+    pub(crate) fn decode(row: RawTerm) -> Option<Term>
+        ensures { result ≡ decode row }
+    {
+        if row.kind == 1 {
+            return if row.b == 0 && row.c == 0 {
+                Some(Term::Number(row.a))
+            } else {
+                None
+            };
+        }
+        let Ok(a) = u8::try_from(row.a) else {
+            return None;
+        };
+        let Ok(b) = u8::try_from(row.b) else {
+            return None;
+        };
+        let Ok(c) = u8::try_from(row.c) else {
+            return None;
+        };
+        Term::of_kind(row.kind, a, b, c)
+    }
+
     // The other kinds than numbers; the kind is a number as the row has it, and this is where it becomes a term.
     fn of_kind(kind: u32, a: u8, b: u8, c: u8) -> Option<Term>
         ensures { result ≡ of_kind kind a b c }
@@ -177,17 +187,16 @@ impl Term {
         }
     }
 
-    // The labels of the children, in order.
-    pub(crate) fn children(&self) -> ArrayVec<u8, 3>
-        ensures { result.items ≡ children self.now }
+    // The labels of the children, in order; where there are fewer than three, none for the others.
+    pub(crate) fn children(&self) -> [Option<u8>; 3]
+        ensures { present result ≡ children self.now }
     {
-        let mut children = ArrayVec::new();
         match *self {
-            Term::Number(_) | Term::Quote(_) | Term::Variable(_) => {}
+            Term::Number(_) | Term::Quote(_) | Term::Variable(_) => [None, None, None],
             Term::Lambda { body: child, .. }
             | Term::Setq { value: child, .. }
             | Term::Car(child)
-            | Term::Cdr(child) => children.push(child),
+            | Term::Cdr(child) => [Some(child), None, None],
             Term::Let {
                 value: first,
                 body: second,
@@ -205,21 +214,13 @@ impl Term {
             | Term::Same {
                 left: first,
                 right: second,
-            } => {
-                children.push(first);
-                children.push(second);
-            }
+            } => [Some(first), Some(second), None],
             Term::If {
                 condition,
                 then,
                 otherwise,
-            } => {
-                children.push(condition);
-                children.push(then);
-                children.push(otherwise);
-            }
+            } => [Some(condition), Some(then), Some(otherwise)],
         }
-        children
     }
 
     // The variable that a let or a lambda binds in its body.

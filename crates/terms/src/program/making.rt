@@ -29,7 +29,8 @@ impl Program {
         if !sizes_right(terms.len(), symbols, definitions.len()) {
             return Err(Fault::ProgramSizes);
         }
-        let table = Table::read(terms, symbols as u8)?;
+        let mut table = Table::new(symbols as u8);
+        table.read(terms)?;
         let definitions = table.read_definitions(definitions)?;
         Ok(Program { table, definitions })
     }

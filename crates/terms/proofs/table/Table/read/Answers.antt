@@ -1,11 +1,10 @@
-use Rattle.std.proofs.Common.{sym, subst}
+use Rattle.std.proofs.Common.{refl}
 use Rattle.std.proofs.lemmas.Result.{err_from_is_err_and}
-use Rattle.terms.specs.Table.{Begun}
-use Rattle.terms.proofs.Progress.{none_begun, one_wrong, one_read}
+use Rattle.terms.proofs.Progress.{none_read, one_wrong, one_read}
 use Rattle.terms.proofs.table.Table.read.Goals as goal
 
-pub invariant_of-table : goal.invariant_of-table
-invariant_of-table c = record { begun = subst Begun (sym c.new.ensures) none_begun }
+pub loop-row-init : goal.loop-row-init
+loop-row-init c = none_read _ _ _ c.requires.0 refl
 
 pub returns-in_err-read_term : goal.returns-in_err-read_term
 returns-in_err-read_term c =
