@@ -3,10 +3,11 @@ use Rattle.std.proofs.Common.{◌≡◌, ℕ, zero, suc, ◌+◌, ◌-◌, ◌*�
 use Rattle.std.specs.List.Sorted.{IsBinarySearchResult, IsPartitionedBy, IsPartitionPoint}
 use Rattle.std.specs.Ordering.{nat_cmp}
 use Rattle.std.proofs.lemmas.List.Sorted.{searched, IsPartitionedBy-ltb, IsNonDecreasingBy-from_default}
-use Rattle.std.proofs.lemmas.Bool.{false_from_ne_true, ltb-false, eqb-true, eq-eqb, ltb-true, le-ltb, and_parts, or_cases, or_left, or_right, cases_lt, cases_eq, cases_Bool, both_ways, cond-true, cond-false, not-false}
+use Rattle.std.proofs.lemmas.Bool.{false_from_ne_true, ltb-false, eqb-true, eq-eqb, ltb-true, le-ltb, and_parts, or_cases, or_left, or_right, cases_lt, cases_eq, cases_order, cases_Bool, ne_eqb, both_ways, cond-true, cond-false, not-false, not_from_true, not_from_false}
+use Rattle.faults.specs.declared.fault.Fault.TheVariants.{ListOrder}
 use Rattle.facts.specs.Table.{holds, first_of, Smallest}
 use Rattle.facts.specs.Lists.{among, in_list, in_order, first_wrong, list_rule, Rises, Place}
-use Rattle.facts.proofs.Firsts.{holds_at, holds_parts, none_first}
+use Rattle.facts.proofs.Firsts.{holds_at, holds_parts, none_first, first_none, first_at}
 
 among_at : (ns : List ℕ) (k n : ℕ) → k < length ns → get_or ns k 0 ≡ n → among n ns ≡ true
 among_at [] k n h e = absurd (omega arith)
@@ -20,6 +21,22 @@ among_where (x ∷ xs) n e =
 
 pub rises_le : (ns : List ℕ) → Rises ns → (i j : ℕ) → i ≤ j → j < length ns → get_or ns i 0 ≤ get_or ns j 0
 rises_le ns up i j l h = ⊎_elim (λ e. rw e (omega arith)) (λ n. let k : i < j = omega arith in omega (arith, up i j k h)) (cases_eq i j)
+
+-- n stands at its place, or nowhere
+module _ (ns : List ℕ) (n i : ℕ) (p : Place ns n i) where
+  pub place_has : Rises ns → i < length ns → among n ns ≡ eqb (get_or ns i 0) n
+  place_has up h =
+      ⊎_elim (λ e. among_at ns i n h e ∙ sym (eq-eqb _ _ e)) (λ d. false_from_ne_true _ (λ e. elsewhere d (among_where ns n e)) ∙ sym (ne_eqb _ _ d))
+      (cases_eq (get_or ns i 0) n)
+    where
+      elsewhere : (get_or ns i 0 ≡ n → ⊥) → (k : ℕ) × (k < length ns) × (get_or ns k 0 ≡ n) → ⊥
+      elsewhere d f =
+          ⊎_elim (λ e. d (ap (λ j. get_or ns j 0) e ∙ f.2))
+          (⊎_elim (λ l. omega (arith, up i f.0 l f.1, p.above i (omega arith) h, f.2)) (λ l. omega (arith, p.below f.0 l, f.2)))
+          (cases_order i f.0)
+
+  pub place_past : length ns ≤ i → among n ns ≡ false
+  place_past h = false_from_ne_true _ (λ e. let f = among_where ns n e in let l : f.0 < i = omega (arith, f.1) in omega (arith, p.below f.0 l, f.2))
 
 -- what the library's searches say of numbers that rise
 module _ (ns : List ℕ) (up : Rises ns) (n : ℕ) where
@@ -54,6 +71,12 @@ module _ (ns : List ℕ) (s from i : ℕ) (up : Rises ns) (hs : s < 4608) (p : P
   abbrev fact : ℕ
   fact = from + (get_or ns i 0 - (4608 * s + from))
 
+  pub next_some : i < length ns → get_or ns i 0 - 4608 * s < 4608 → Smallest (holds (in_list ns) s) from (Some (get_or ns i 0 - 4608 * s))
+  next_some h l =
+      let a = p.above i (omega arith) h in
+      let e : 4608 * s + (get_or ns i 0 - 4608 * s) ≡ get_or ns i 0 = omega arith in
+      (omega arith, sym (holds_at (in_list ns) s _ hs l) ∙ among_at ns i _ h (sym e), λ k m n. false_from_ne_true _ (λ t. omega (arith, (stands k m t).1)))
+
   pub next_past : length ns ≤ i → Smallest (holds (in_list ns) s) from None
   next_past h = λ k m. false_from_ne_true _ (λ t. omega (arith, (stands k m t).0))
 
@@ -65,6 +88,9 @@ module _ (ns : List ℕ) (s from i : ℕ) (up : Rises ns) (hs : s < 4608) (p : P
       let l = ltb-true _ _ (sym v) in
       let g : 4608 * s + f ≡ get_or ns i 0 = omega (arith, q, e, a) in
       (omega (arith, q, e), sym (holds_at (in_list ns) s f hs (omega (arith, e, l))) ∙ among_at ns i _ h (sym g), λ k m n. false_from_ne_true _ (λ t. omega (arith, q, e, (stands k m t).1)))
+
+  pub next_over : i < length ns → 4608 ≤ get_or ns i 0 - 4608 * s → Smallest (holds (in_list ns) s) from None
+  next_over h l = λ k m. false_from_ne_true _ (λ t. omega (arith, (stands k m t).1, (stands k m t).2))
 
 -- a list with each number in order rises
 rises_from : (ns : List ℕ) → ((i : ℕ) → i < length ns → in_order ns i ≡ true) → Rises ns
@@ -92,3 +118,11 @@ module _ (ns : List ℕ) where
 -- the answer at the first number that is not in order
 pub ruled : (ns : List ℕ) → length ns ≤ 8191 → (o : Option ℕ) → o ≡ first_of (λ i. not (in_order ns i)) 0 (length ns) → first_wrong o ≡ list_rule ns
 ruled ns l o e = ap first_wrong e ∙ sym (cond-false _ _ _ (le-ltb 8191 (length ns) l))
+
+-- the same at each answer
+module _ (ns : List ℕ) (l : length ns ≤ 8191) where
+  pub refused_at : (i : ℕ) → i < length ns → in_order ns i ≡ false → ((k : ℕ) → k < i → in_order ns k ≡ true) → Err (ListOrder i) ≡ list_rule ns
+  refused_at i h e before = ruled ns l (Some i) (first_at _ 0 (length ns) i (omega arith) (omega arith) (not_from_false _ e) (λ k _ m. not_from_true _ (before k m)))
+
+  pub accepted_all : ((k : ℕ) → k < length ns → in_order ns k ≡ true) → Ok tt ≡ list_rule ns
+  accepted_all all = ruled ns l None (first_none _ 0 (length ns) (λ k _ m. not_from_true _ (all k (omega arith))))

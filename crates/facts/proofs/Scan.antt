@@ -1,8 +1,9 @@
 -- the first set bit from a given number on, in the words of a set
-use Rattle.std.proofs.Common.{◌≡◌, ℕ, ◌+◌, ◌-◌, ◌*◌, ◌/◌, ◌%◌, ◌^◌, ◌<◌, ◌≤◌, true, false, List, get_or, Some, sym, refl, ap, ◌∙◌, ⊎_elim, add-zero, div-one, arith, shr-shr, w64}
+use Rattle.std.proofs.Common.{◌≡◌, ℕ, zero, suc, ◌+◌, ◌-◌, ◌*◌, ◌/◌, ◌%◌, ◌^◌, ◌<◌, ◌≤◌, true, false, List, get_or, Some, sym, refl, ap, ◌∙◌, ⊎_elim, add-zero, pow-suc, div-one, one-add, arith, shr-shr, w64}
 use lib.Pow.{shr_le}
+use lib.Count.{count_trailing_zeros, under}
 use Rattle.std.specs.Int.{bit_at, trailing_zeros}
-use Rattle.std.proofs.lemmas.Bool.{eq-eqb, eqb-true, eqb-false, not-true, not-false, both_ways, cases_lt}
+use Rattle.std.proofs.lemmas.Bool.{eq-eqb, ne_eqb, eqb-true, eqb-false, not-true, not-false, both_ways, cases_lt}
 use Rattle.std.proofs.lemmas.Nat.Bits.{bit_at-zero, bit_at_above, bit_at-trailing_zeros}
 use Rattle.facts.specs.Table.{holds, Smallest}
 use Rattle.facts.specs.Words.{bit, in_words, filled}
@@ -13,6 +14,31 @@ bit_clear w k e = rw e refl
 
 bit_shr : (w j k : ℕ) → bit (w / 2 ^ j) k ≡ bit w (j + k)
 bit_shr w j k = simp shr-shr
+
+-- the bits below the trailing zeros of w are 0, and the next is 1
+tz_below : (n w k : ℕ) → k < count_trailing_zeros n w → bit w k ≡ false
+unfolding count_trailing_zeros
+tz_below zero w k h = absurd (omega arith)
+tz_below (suc n) w k h = step (tz_below n (w / 2)) (w % 2) refl k h
+  where
+    step : ((k : ℕ) → k < count_trailing_zeros n (w / 2) → bit (w / 2) k ≡ false) → (d : ℕ) → w % 2 ≡ d
+        → (k : ℕ) → k < under d (count_trailing_zeros n (w / 2)) → bit w k ≡ false
+    step up zero e zero h = ne_eqb _ _ (simp div-one (omega arith))
+    step up zero e (suc k) h = sym (bit_shr w 1 k ∙ ap (bit w) (one-add k)) ∙ up k (omega arith)
+    step up (suc d) e k h = absurd (omega arith)
+
+tz_at : (n w : ℕ) → 0 < w → w < 2 ^ n → bit w (count_trailing_zeros n w) ≡ true
+unfolding count_trailing_zeros
+tz_at zero w p h = absurd (omega arith)
+tz_at (suc n) w p h = step (tz_at n (w / 2)) (w % 2) refl
+  where
+    step : (0 < w / 2 → w / 2 < 2 ^ n → bit (w / 2) (count_trailing_zeros n (w / 2)) ≡ true) → (d : ℕ) → w % 2 ≡ d
+        → bit w (under d (count_trailing_zeros n (w / 2))) ≡ true
+    step up zero e =
+        let s = pow-suc 2 n in
+        let t = count_trailing_zeros n (w / 2) in
+        sym (bit_shr w 1 t ∙ ap (bit w) (one-add t)) ∙ up (omega arith) (omega arith)
+    step up (suc d) e = eq-eqb _ _ (simp div-one (omega arith))
 
 -- word q of set s
 module _ (ws : List ℕ) (s q : ℕ) (hs : s < 4608) (hq : q < 72) where
@@ -49,7 +75,7 @@ module _ (ws : List ℕ) (s q : ℕ) (hs : s < 4608) (hq : q < 72) where
             ap (holds (in_words ws) s) (sym f) ∙ agrees (i + m) (omega arith) ∙ sym (bit_shr word i m) ∙ bit_clear (word / 2 ^ i) m (lowest.2 m (omega arith)),
       )
 
-  first_in_word : word < 2 ^ 64 → (word ≡ 0 → ⊥)
+  pub first_in_word : word < 2 ^ 64 → (word ≡ 0 → ⊥)
       → (holds (in_words ws) s (64 * q + trailing_zeros w64 word) ≡ true)
       × ((k : ℕ) → 64 * q ≤ k → k < 64 * q + trailing_zeros w64 word → holds (in_words ws) s k ≡ false)
   first_in_word fits nz = simp (div-one, add-zero) at (first_from 0 fits (λ z. nz (sym (div-one word) ∙ z)))
@@ -65,7 +91,7 @@ module _ (ws : List ℕ) (s from n : ℕ) (hs : s < 4608) (hf : from < 4608) (hn
   whole : 64 * (from / 64) + from % 64 ≡ from
   whole = omega arith
 
-  none_after : get_or ws (n / 64) 0 / 2 ^ (n % 64) ≡ 0 → (k : ℕ) → from ≤ k → k < 64 * (from / 64 + 1) → holds (in_words ws) s k ≡ false
+  pub none_after : get_or ws (n / 64) 0 / 2 ^ (n % 64) ≡ 0 → (k : ℕ) → from ≤ k → k < 64 * (from / 64 + 1) → holds (in_words ws) s k ≡ false
   none_after z k lo hi = none_from ws s (from / 64) hs (omega arith) (from % 64) (rw (word_of, bit_of) at z) k (omega arith) (omega arith)
 
   pub first_after : get_or ws (n / 64) 0 < 2 ^ 64 → (get_or ws (n / 64) 0 / 2 ^ (n % 64) ≡ 0 → ⊥)

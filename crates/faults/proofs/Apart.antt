@@ -1,11 +1,17 @@
 -- no two faults have one name and the same places
-use Rattle.std.proofs.Common.{◌≡◌, ℕ, zero, suc, ◌+◌, ◌*◌, Bool, true, cond, eqb, List, [], ◌∷◌, codes, sym, refl, ◌∙◌, subst}
+use Rattle.std.proofs.Common.{◌≡◌, ℕ, zero, suc, ◌+◌, ◌*◌, Bool, true, false, not, ◌&&◌, cond, eqb, List, [], ◌∷◌, codes, sym, refl, ap, ◌∙◌, subst}
 use Prim.Native.String.{String}
-use Rattle.std.specs.Prelude.{Decides}
-use Rattle.std.specs.Cmp.Lexicographic.{same_text}
+use Rattle.std.specs.Prelude.{Decides, nat_eq}
+use Rattle.std.specs.Cmp.Lexicographic.{same_text, pointwise}
+use Rattle.std.specs.Cmp.{both_ways}
 use Rattle.std.specs.Cmp.Derive.{both_true}
-use Rattle.std.proofs.lemmas.Bool.{and_parts}
+use Rattle.std.proofs.lemmas.Bool.{and_parts, not-true, not-false}
+use Rattle.std.proofs.Math.Bool.{and-true}
 use Rattle.std.proofs.lemmas.Cmp.{nat_list_eq_equiv}
+use Rattle.faults.specs.Places.{Place, named}
+use Rattle.faults.specs.declared.places.Places.{Places}
+use Rattle.faults.specs.declared.places.Places.TheVariants.{Nowhere, Index, Row, Label, Fact, Clause}
+use Rattle.faults.specs.contracts.places.PlacesPartialEq.TheImpl as derived
 use Rattle.faults.specs.Refusals.{stated, values, same_fault}
 use Rattle.faults.specs.declared.fault.Fault.{Fault}
 use Rattle.faults.specs.declared.fault.Fault.TheVariants.{ProgramSizes, WrongTerm, WrongDefinitions, ListOrder, WrongRow, WrongMask, WrongFact, UnmetClause, WrongMark, StoreLimit, RowUnderWay, NoRow, NotAnInput, MemoryLength, NoSuchVariable, StoreFull, StoreEmpty, VoidVariable, NotAFunction, NotAPair, NotANumber, NoFrameLeft, NoPairLeft}
@@ -89,3 +95,95 @@ same_decides a b = (
   λ e. stated_apart a b (same_text _ _ (sym (and_parts _ _ e).0)) (same_text _ _ (sym (and_parts _ _ e).1)),
   λ e. subst (λ f. same_fault a f ≡ true) e (both_true (nat_list_eq_equiv.refl (stated a).name) (nat_list_eq_equiv.refl (values (stated a).places))),
 )
+
+-- ---- places
+
+-- the kind of places, as the first name tells it, and then their numbers
+abbrev key : List Place → List ℕ
+key [] = []
+key (p ∷ ps) = packed p.name ∷ values (p ∷ ps)
+
+abbrev keyed : List ℕ → Places
+keyed [] = Nowhere
+keyed (k ∷ ns) =
+    cond (eqb k (packed (codes "index"))) (Index (value 0 ns)) (
+    cond (eqb k (packed (codes "row"))) (Row (value 0 ns)) (
+    cond (eqb k (packed (codes "label"))) (Label (value 0 ns)) (
+    cond (eqb k (packed (codes "set"))) (Fact (value 0 ns) (value 1 ns)) (
+    cond (eqb k (packed (codes "definition"))) (Clause (value 0 ns) (value 1 ns) (value 2 ns) (value 3 ns)) Nowhere))))
+
+keyed_named : (p : Places) → keyed (key (named p)) ≡ p
+keyed_named Nowhere = refl
+keyed_named (Index i) = refl
+keyed_named (Row r) = refl
+keyed_named (Label l) = refl
+keyed_named (Fact s n) = refl
+keyed_named (Clause d l k p) = refl
+
+-- no two places have one key
+key_apart : (p q : Places) → key (named p) ≡ key (named q) → p ≡ q
+key_apart p q e = sym (keyed_named p) ∙ ap keyed e ∙ keyed_named q
+
+-- what the derived `==` computes
+abbrev same_places : Places → Places → Bool
+same_places = derived.ghosts.eq
+
+places_test : (p q : Places) → same_places p q ≡ pointwise nat_eq (key (named p)) (key (named q))
+places_test Nowhere Nowhere = refl
+places_test Nowhere (Index b) = refl
+places_test Nowhere (Row b) = refl
+places_test Nowhere (Label b) = refl
+places_test Nowhere (Fact b0 b1) = refl
+places_test Nowhere (Clause b0 b1 b2 b3) = refl
+places_test (Index a) Nowhere = refl
+places_test (Index a) (Index b) = sym (and-true (eqb a b))
+places_test (Index a) (Row b) = refl
+places_test (Index a) (Label b) = refl
+places_test (Index a) (Fact b0 b1) = refl
+places_test (Index a) (Clause b0 b1 b2 b3) = refl
+places_test (Row a) Nowhere = refl
+places_test (Row a) (Index b) = refl
+places_test (Row a) (Row b) = sym (and-true (eqb a b))
+places_test (Row a) (Label b) = refl
+places_test (Row a) (Fact b0 b1) = refl
+places_test (Row a) (Clause b0 b1 b2 b3) = refl
+places_test (Label a) Nowhere = refl
+places_test (Label a) (Index b) = refl
+places_test (Label a) (Row b) = refl
+places_test (Label a) (Label b) = sym (and-true (eqb a b))
+places_test (Label a) (Fact b0 b1) = refl
+places_test (Label a) (Clause b0 b1 b2 b3) = refl
+places_test (Fact a0 a1) Nowhere = refl
+places_test (Fact a0 a1) (Index b) = refl
+places_test (Fact a0 a1) (Row b) = refl
+places_test (Fact a0 a1) (Label b) = refl
+places_test (Fact a0 a1) (Fact b0 b1) = ap (λ t. eqb a0 b0 && t) (sym (and-true (eqb a1 b1)))
+places_test (Fact a0 a1) (Clause b0 b1 b2 b3) = refl
+places_test (Clause a0 a1 a2 a3) Nowhere = refl
+places_test (Clause a0 a1 a2 a3) (Index b) = refl
+places_test (Clause a0 a1 a2 a3) (Row b) = refl
+places_test (Clause a0 a1 a2 a3) (Label b) = refl
+places_test (Clause a0 a1 a2 a3) (Fact b0 b1) = refl
+places_test (Clause a0 a1 a2 a3) (Clause b0 b1 b2 b3) = λ i. eqb a0 b0 && (eqb a1 b1 && (eqb a2 b2 && sym (and-true (eqb a3 b3)) i))
+
+places_decides : (p q : Places) → Decides (same_places p q) (p ≡ q)
+places_decides p q = (
+  λ e. key_apart p q (same_text _ _ (sym (sym (places_test p q) ∙ e))),
+  λ e. subst (λ r. same_places p r ≡ true) e (places_test p p ∙ nat_list_eq_equiv.refl (key (named p))),
+)
+
+-- what the comparison of names and places tells
+pub same_by : (a b : Fault) (p q : Places) → named p ≡ (stated a).places → named q ≡ (stated b).places → (stated a).name ≡ (stated b).name → same_places p q ≡ same_fault a b
+same_by a b p q n m e = both_ways _ _
+    (λ s. both_true (subst (λ k. pointwise nat_eq (stated a).name k ≡ true) e (nat_list_eq_equiv.refl (stated a).name))
+    (subst (λ k. pointwise nat_eq (values (stated a).places) k ≡ true) (ap values (sym n ∙ ap named ((places_decides p q).0 s) ∙ m)) (nat_list_eq_equiv.refl (values (stated a).places))))
+    (λ s. (places_decides p q).1 (key_apart p q (ap key (n ∙ ap (λ f. (stated f).places) ((same_decides a b).0 s) ∙ sym m))))
+
+-- the names k and m are compared first
+module _ (a b : Fault) (k m : List ℕ) (r : Bool) (of_a : k ≡ (stated a).name) (of_b : m ≡ (stated b).name) (e : r ≡ not (pointwise nat_eq k m)) where
+  pub names_differ : r ≡ true → false ≡ same_fault a b
+  names_differ t = sym (ap (λ x. x && pointwise nat_eq (values (stated a).places) (values (stated b).places))
+      ((λ i. pointwise nat_eq (sym of_a i) (sym of_b i)) ∙ not-true (pointwise nat_eq k m) (sym e ∙ t)))
+
+  pub names_agree : r ≡ false → (stated a).name ≡ (stated b).name
+  names_agree f = sym of_a ∙ same_text k m (sym (not-false (pointwise nat_eq k m) (sym e ∙ f))) ∙ of_b

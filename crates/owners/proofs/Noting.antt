@@ -20,7 +20,7 @@ pub record Noted (f : ℕ → ℕ) (l : ℕ) (xs : List ℕ) : Type 0 where
   pub below : (m : ℕ) → m ≤ l → get_or xs m 0 ≡ 0
 
 module _ (f : ℕ → ℕ) where
-  none_noted : (l : ℕ) (xs : List ℕ) → xs ≡ replicate 256 0 → ((m : ℕ) → l < m → f m ≡ 0) → Noted f l xs
+  pub none_noted : (l : ℕ) (xs : List ℕ) → xs ≡ replicate 256 0 → ((m : ℕ) → l < m → f m ≡ 0) → Noted f l xs
   none_noted l xs e past = record {
     long = ap length e;
     above = λ m a b. zero_at m ∙ sym (past m a);
@@ -38,7 +38,7 @@ module _ (f : ℕ → ℕ) where
     below = λ m a. n.below m (omega arith);
   }
 
-  one_noted : (l y : ℕ) (xs ys : List ℕ) → 1 ≤ l → l < 256 → y ≡ f l → Noted f l xs → ys ≡ set xs l y → Noted f (l - 1) ys
+  pub one_noted : (l y : ℕ) (xs ys : List ℕ) → 1 ≤ l → l < 256 → y ≡ f l → Noted f l xs → ys ≡ set xs l y → Noted f (l - 1) ys
   one_noted l y xs ys low high is n e = record {
     long = ap length e ∙ length-set xs l y ∙ n.long;
     above = λ m a b. ap (λ zs. get_or zs m 0) e ∙ elim (cases_eq m l) [
@@ -48,7 +48,7 @@ module _ (f : ℕ → ℕ) where
     below = λ m a. ap (λ zs. get_or zs m 0) e ∙ get_or-set_other xs l m y 0 (let q : m ≢ l = omega arith in q) ∙ n.below m (omega arith);
   }
 
-  all_noted : (xs : List ℕ) → f 0 ≡ 0 → Noted f 0 xs → xs ≡ map f (range_with_len 0 256)
+  pub all_noted : (xs : List ℕ) → f 0 ≡ 0 → Noted f 0 xs → xs ≡ map f (range_with_len 0 256)
   all_noted xs z n = fill_by_all f xs 256 0 n.long at
     where
       at : (k : ℕ) → k < 256 → get_or xs k 0 ≡ f k
@@ -65,6 +65,9 @@ module _ (p : Script) where
   uncaptured : (l : ℕ) → owner p l ≡ 0 → captured_byte p l ≡ 0
   unfolding captured
   uncaptured l z = ap (λ k. cond (not (eqb k 0) && some_of 256 0 (between p l k)) 1 0) z
+
+  no_capture : (l : ℕ) → occurs (term p l) ≡ None → captured_byte p l ≡ 0
+  no_capture l e = uncaptured l (no_owner l e)
 
   none_past : (l : ℕ) → last p < l → occurs (term p l) ≡ None
   unfolding last term_at
@@ -84,11 +87,17 @@ module _ (p : Script) where
     ]
   ]
 
-  owner_past : (l : ℕ) → last p < l → owner p l ≡ 0
+  pub owner_past : (l : ℕ) → last p < l → owner p l ≡ 0
   owner_past l h = no_owner l (none_past l h)
 
-  owner_zero : owner p 0 ≡ 0
+  pub owner_zero : owner p 0 ≡ 0
   owner_zero = no_owner 0 none_zero
+
+  pub capture_past : (l : ℕ) → last p < l → captured_byte p l ≡ 0
+  capture_past l h = no_capture l (none_past l h)
+
+  pub capture_zero : captured_byte p 0 ≡ 0
+  capture_zero = no_capture 0 none_zero
 
 as_byte : (k : Bool) → from_bool k ≡ cond k 1 0
 as_byte true = refl

@@ -124,11 +124,11 @@ module _ (p : Script) (w : WellFormed p) where
       omega (arith, few_opened l n 1, w.few_terms, w.some_term)
 
   -- fewer scopes are open than a search has room for
-  few_scopes : (l : ℕ) → length (scopes_at p l) < 255
+  pub few_scopes : (l : ℕ) → length (scopes_at p l) < 255
   unfolding scopes_at
   few_scopes l = few_from_none l 255
 
-left_fewer : (p : Script) (l : ℕ) (ss : List Scope) → length (left_at p l ss) ≤ length ss
+pub left_fewer : (p : Script) (l : ℕ) (ss : List Scope) → length (left_at p l ss) ≤ length ss
 left_fewer p l [] = omega arith
 left_fewer p l (s ∷ ss) = elim (cases_Bool (ltb l (first p s.binder))) [
   | inl h ↦ (let e : length (left_at p l (s ∷ ss)) ≡ length (left_at p l ss) = ap length (cond-true _ _ _ h) in omega (arith, left_fewer p l ss))

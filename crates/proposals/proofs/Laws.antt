@@ -49,6 +49,18 @@ module _ (t : Tables) where
       let m = memory_parts e in
       ⊎_elim (λ d. d m.0) (⊎_elim (λ d. omega (arith, d.1, m.1)) (⊎_elim (λ d. omega (arith, d.2, m.0, m.2)) (λ d. d.3 m.3))) h)
 
+  -- from any one that is wrong, whatever the others are
+  pub memory_wrong_any : ((length t.rows % 32 ≡ 0 → ⊥) ⊎ ((length t.rows < 32) ⊎ ((512 < length t.rows) ⊎ (length t.masks ≡ 256 → ⊥)))) → memory_right t ≡ false
+  unfolding contexts
+  memory_wrong_any h = false_from_ne_true _ (λ e. at (memory_parts e) h)
+    where
+      at : (length t.rows % 32 ≡ 0) × (1 ≤ contexts t) × (contexts t ≤ 16) × (length t.masks ≡ 256)
+          → ((length t.rows % 32 ≡ 0 → ⊥) ⊎ ((length t.rows < 32) ⊎ ((512 < length t.rows) ⊎ (length t.masks ≡ 256 → ⊥)))) → ⊥
+      at m (inl d) = d m.0
+      at m (inr (inl d)) = omega (arith, m.1)
+      at m (inr (inr (inl d))) = omega (arith, m.0, m.2)
+      at m (inr (inr (inr d))) = d m.3
+
   pub whole : length t.rows % 32 ≡ 0 → length t.rows ≡ 32 * contexts t
   unfolding contexts
   whole e = omega arith
@@ -188,6 +200,9 @@ module _ (p : Script) (t : Tables) where
       → record { verdict : made_tables m r ≡ proposal_of p t; exactly : MatchResult r (λ _. DueForm p t) (λ _. DueForm p t → ⊥) }
   refusal w m (Ok q) e h d = absurd h
   refusal w m (Err f) e h d = record { verdict = ap Err h ∙ ap (λ o. taken o t) (sym d); exactly = λ form. let s = sym d ∙ since_due p t w form in cc }
+
+  pub declined : (e : Fault) → due_form p t ≡ Err e → Err e ≡ proposal_of p t
+  declined e q = ap (λ o. taken o t) (sym q)
 
   pub made : due_form p t ≡ Ok tt → Ok t ≡ proposal_of p t
   made q = ap (λ o. taken o t) (sym q)

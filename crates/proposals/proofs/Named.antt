@@ -6,6 +6,7 @@ use Rattle.std.proofs.lemmas.Option.{cond_some}
 use Rattle.terms.specs.declared.term.Term.{Term}
 use Rattle.terms.specs.Script.{Script, term, find_term, is_body, cons_operands}
 use Rattle.terms.specs.WellFormed.{WellFormed}
+use Rattle.terms.proofs.Nesting.{binder_label, body_binds}
 use Rattle.terms.proofs.Lookups.{nothing_there}
 use Rattle.facts.specs.declared.numbering.Fact.{Fact}
 use Rattle.facts.specs.declared.numbering.Fact.TheVariants as fact
@@ -56,6 +57,9 @@ module _ (p : Script) (t : Tables) (f : ℕ) where
 
 -- the code's way to each answer: the fact with the number f
 module _ (p : Script) (w : WellFormed p) (t : Tables) (few : contexts t ≤ 16) (f : ℕ) where
+  body_low : (g : ℕ) → is_body p g ≡ true → g < 256
+  body_low g e = omega (arith, w.few_terms, (binder_label p w g (body_binds p g e)).1)
+
   at_symbol : (s : ℕ) → (s < 32) × (s ≡ f) → ltb s p.symbols ≡ fact_right p t f
   at_symbol s h = one_truth _ _ (λ e. right_symbol p t f (omega (arith, ltb-true _ _ e, h.1))) (λ e. back (right_cases p t f e))
     where

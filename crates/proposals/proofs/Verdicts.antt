@@ -1,11 +1,11 @@
 -- The first wrong thing, and none.
 use Rattle.std.proofs.Common.{◌≡◌, ℕ, ◌<◌, Bool, true, false, not, ◌&&◌, is_some, Some, None, Ok, Err, Option, unwrap_or, sym, refl, ap, ◌∙◌, ⊎_elim, arith}
-use Rattle.std.proofs.lemmas.Bool.{not_from_true, not_from_false, not-false, and_left, and_right, cases_lt, cases_Bool}
+use Rattle.std.proofs.lemmas.Bool.{not_from_true, not_from_false, not-false, and_from, and_left, and_right, cases_lt, cases_Bool}
 use Rattle.faults.specs.declared.fault.Fault.{Fault}
 use Rattle.faults.specs.declared.fault.Fault.TheVariants.{WrongRow, WrongMask, WrongFact}
 use Rattle.terms.specs.Script.{Script}
 use Rattle.facts.specs.Table.{first_of, Smallest}
-use Rattle.facts.proofs.Firsts.{first_at, first_none, none_first}
+use Rattle.facts.proofs.Firsts.{first_at, first_none, none_first, holds_parts}
 use Rattle.proposals.specs.Tables.{Tables, in_set, contexts}
 use Rattle.proposals.specs.DueForm.{row_right, mask_right, fact_right, wrong_fact, refused_at, rows_verdict, masks_verdict, facts_verdict}
 
@@ -45,6 +45,17 @@ module _ (p : Script) (t : Tables) where
   pub masks_all : Ok tt ≡ masks_verdict p t → (l : ℕ) → l < 256 → mask_right p t l ≡ true
   unfolding masks_verdict
   masks_all e l h = not-false _ (none_first (λ i. not (mask_right p t i)) 0 256 (none_refused WrongMask _ e) l (omega arith) (omega arith))
+
+  pub fact_first : (s from f : ℕ) → Smallest (in_set t s) from (Some f) → fact_right p t f ≡ false
+      → ((k : ℕ) → k < from → in_set t s k ≡ true → fact_right p t k ≡ true) → Some f ≡ wrong_fact p t s
+  unfolding wrong_fact
+  fact_first s from f next e before =
+      first_at (λ k. in_set t s k && not (fact_right p t k)) 0 4608 f (omega arith) (omega (arith, (holds_parts t.members s f next.1).1)) (and_from _ _ next.1 (not_from_false _ e)) (λ k _ l. earlier k l)
+    where
+      earlier : (k : ℕ) → k < f → (in_set t s k && not (fact_right p t k)) ≡ false
+      earlier k l = ⊎_elim
+          (λ a. ⊎_elim (λ i. and_right (in_set t s k) _ (not_from_true _ (before k a i))) (λ i. and_left _ _ i) (cases_Bool (in_set t s k)))
+          (λ a. and_left _ _ (next.2 k a l)) (cases_lt k from)
 
   pub fact_none : (s from : ℕ) → Smallest (in_set t s) from None → ((k : ℕ) → k < from → in_set t s k ≡ true → fact_right p t k ≡ true) → None ≡ wrong_fact p t s
   unfolding wrong_fact

@@ -1,5 +1,6 @@
 -- `newest` and `replaced` on one binding and on a list in two parts.
-use Rattle.std.proofs.Common.{◌≡◌, ℕ, Bool, true, false, cond, eqb, List, [], ◌∷◌, ◌++◌, length, Some, None, refl, ap}
+use Rattle.std.proofs.Common.{◌≡◌, ℕ, ◌+◌, ◌<◌, Bool, true, false, cond, eqb, List, [], ◌∷◌, ◌++◌, length, get_or, take, drop, set, Some, None, sym, refl, ap, ◌∙◌, add-one, take-append-drop}
+use Rattle.std.proofs.lemmas.List.{drop_more, take_more, set_split}
 use Rattle.std.proofs.lemmas.Bool.{eq-eqb, ne_eqb, cond-true, cond-false}
 use Rattle.stores.specs.declared.binding.Binding.{Binding}
 use Rattle.stores.specs.Meaning.{newest, replaced}
@@ -48,3 +49,22 @@ length_replaced x t [] = refl
 length_replaced x t (b ∷ bs) =
     let P : Bool → Type 0 = λ v. length (cond v (with_thing b t ∷ bs) (b ∷ replaced x t bs)) ≡ length (b ∷ bs) in
     elim (eqb b.variable x) as P [ true ↦ refl | false ↦ cc (length_replaced x t bs) ]
+
+-- one step of a search
+pub newest_more : {T : Type 0} (x : ℕ) (bs : List (Binding T)) (i : ℕ) (d : Binding T) → i < length bs → newest x (take i bs) ≡ None → ((get_or bs i d).variable ≡ x → ⊥)
+    → newest x (take (i + 1) bs) ≡ None
+newest_more x bs i d lt before ne =
+    ap (newest x) (take_more bs i d lt) ∙ newest_skip x (take i bs) _ before ∙ newest_past x (get_or bs i d) [] ne
+
+-- the binding at i is the newest of x
+module _ {T : Type 0} (x : ℕ) (bs : List (Binding T)) (i : ℕ) (d : Binding T) (lt : i < length bs) (here : (get_or bs i d).variable ≡ x) (before : newest x (take i bs) ≡ None) where
+  parted : bs ≡ take i bs ++ (get_or bs i d ∷ drop (i + 1) bs)
+  parted = sym (take-append-drop i bs) ∙ ap (λ l. take i bs ++ l) (drop_more bs i d lt)
+
+  pub newest_at : newest x bs ≡ Some ((get_or bs i d).thing, (get_or bs i d).birthplace)
+  newest_at = ap (newest x) parted ∙ newest_skip x (take i bs) _ before ∙ newest_here x (get_or bs i d) _ here
+
+  pub replaced_at : (t : T) → replaced x t bs ≡ set bs i (with_thing (get_or bs i d) t)
+  replaced_at t =
+      ap (replaced x t) parted ∙ replaced_skip x t (take i bs) _ before ∙ ap (λ l. take i bs ++ l) (replaced_here x (get_or bs i d) _ t here)
+      ∙ sym (rw add-one (set_split bs i _ lt))

@@ -1,14 +1,18 @@
 -- What a caller learns from the equation of a call; then the laws of `specs/Laws`.
 use Rattle.std.proofs.Common.{◌≡◌, ℕ, ◌<◌, ◌≤◌, cond, eqb, ltb, List, [], ◌∷◌, ◌++◌, length, get_or, set, is_some, Some, None, Ok, Err, Option, Result, sym, refl, ap, ◌∙◌, ⊎_elim, arith, length-set}
 use Rattle.std.proofs.lemmas.List.{get_or-set_same, get_or-set_other}
-use Rattle.std.proofs.lemmas.Bool.{cond_both, eqb-false, cases_eq}
+use Rattle.std.proofs.lemmas.Bool.{cond-true, cond_both, lt-ltb, eqb-false, cases_eq}
 use Rattle.std.proofs.lemmas.Bool.Decides.{nat_tests}
 use Rattle.faults.specs.declared.fault.Fault.{Fault}
-use Rattle.faults.specs.declared.fault.Fault.TheVariants.{NoSuchVariable}
+use Rattle.faults.specs.declared.fault.Fault.TheVariants.{NoSuchVariable, StoreFull}
 use Rattle.stores.specs.declared.binding.Binding.{Binding}
 use Rattle.stores.specs.Meaning.{Meaning, Formed, count_of, clear_of, bound, bind_of, unbound, unbind_of, newest, outermost, or_else, seen, look_of, replaced, assigned, put_of}
 use Rattle.stores.specs.Laws.{Free, Newest, birthplace_in, LookNewest, BindShows, UnbindUndoes, PutReplaces, PutTops, PutShows, Lawful}
 use Rattle.stores.proofs.Bindings.{with_thing, newest_here, newest_past, newest_skip, replaced_here, replaced_past, replaced_skip, replaced_none, length_replaced}
+
+-- no answer is both
+pub one_answer : (r : Result (Unit {0}) Fault) (e : Fault) → r ≡ Ok tt → r ≡ Err e → ⊥
+one_answer r e ok err = let z : ◌≡◌ {A = ℕ} 0 1 = cc in omega arith
 
 -- ---- one equation, r the answer and m' the meaning after
 module _ {T : Type 0} (m m' : Meaning T) (x : ℕ) (t : T) (b : ℕ) (r : Result (Unit {0}) Fault) (is : (r, m') ≡ bind_of m x t b) where
@@ -21,7 +25,19 @@ module _ {T : Type 0} (m m' : Meaning T) (x : ℕ) (t : T) (b : ℕ) (r : Result
   pub bind_accepts : x ≤ 31 → count_of m < m.limit → r ≡ Ok tt
   bind_accepts low room = grind (arith, nat_tests)
 
+  pub bind_full : x ≤ 31 → count_of m ≡ m.limit → r ≡ Err StoreFull
+  bind_full low full = grind (arith, nat_tests)
+
+  pub bind_high : 31 < x → r ≡ Err NoSuchVariable
+  bind_high high = grind (arith, nat_tests)
+
 module _ {T : Type 0} (m m' : Meaning T) (r : Result (Unit {0}) Fault) (is : (r, m') ≡ unbind_of m) where
+  -- of a list with a binding in front
+  pub unbind_done : (b : Binding T) (bs : List (Binding T)) → m.bindings ≡ b ∷ bs → (r ≡ Ok tt) × (m' ≡ record { bindings = bs; top = m.top; limit = m.limit })
+  unbind_done b bs list =
+      let e : (r, m') ≡ unbind_of (record { bindings = b ∷ bs; top = m.top; limit = m.limit }) = is ∙ ap (λ l. unbind_of (record { bindings = l; top = m.top; limit = m.limit })) list in
+      (ap (λ p. p.0) e, ap (λ p. p.1) e)
+
   pub unbind_refused : (e : Fault) → r ≡ Err e → (m' ≡ m) × (m.bindings ≡ [])
   unbind_refused e err = grind arith
 
@@ -32,9 +48,15 @@ module _ {T : Type 0} (m m' : Meaning T) (x : ℕ) (t : T) (r : Result (Unit {0}
   pub put_refused : (e : Fault) → r ≡ Err e → (m' ≡ m) × (31 < x)
   put_refused e err = grind (arith, nat_tests)
 
+  pub put_accepts : x ≤ 31 → r ≡ Ok tt
+  put_accepts low = grind (arith, nat_tests)
+
 module _ {T : Type 0} (m : Meaning T) (x : ℕ) where
   pub look_low : x ≤ 31 → look_of m x ≡ Ok (seen m x)
   look_low low = grind (arith, nat_tests)
+
+  pub look_high : 31 < x → look_of m x ≡ Err NoSuchVariable
+  look_high high = cond-true (ltb 31 x) _ _ (lt-ltb 31 x high)
 
   pub look_done : (o : Option (T × ℕ)) → look_of m x ≡ Ok o → (o ≡ seen m x) × (x ≤ 31)
   look_done o is = grind (arith, nat_tests)
